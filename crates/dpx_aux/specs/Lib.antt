@@ -1,0 +1,4 @@
+pub mod Conversation
+pub mod Reply
+pub mod Request
+pub mod Transaction

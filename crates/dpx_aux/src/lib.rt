@@ -1,0 +1,16 @@
+//! The AUX channel: the bytes of native requests and replies, and transactions.
+//!
+//! * `request`: a request and its bytes
+//! * `reply`: what the bytes of an answer say to a request
+//! * `transaction`: one transaction, and how it ends
+//!
+//! `specs/Conversation.antt` has the parts that histories are made of, for this crate and those above it.
+#![tactic(auto)]
+
+mod reply;
+mod request;
+mod transaction;
+
+pub use reply::{Reply, read_reply};
+pub use request::{Data16, Request, encode_request};
+pub use transaction::{AuxEnd, LastAnswer, transact};

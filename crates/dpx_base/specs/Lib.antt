@@ -1,0 +1,5 @@
+pub mod Faults
+pub mod Lanes
+pub mod Port
+pub mod Rate
+pub mod Seen

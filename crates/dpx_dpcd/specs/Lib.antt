@@ -1,0 +1,4 @@
+pub mod Caps
+pub mod Pattern
+pub mod Registers
+pub mod Status

@@ -1,0 +1,91 @@
+ghost use Rattle.std.specs.Prelude.{◌≡◌, ◌≤◌, ◌↔◌, IsTrue, IfOk, slice_index};
+ghost use Rattle.dpx_dpcd.specs.Caps.{caps_from, start_of, pattern_for, HasExtended};
+
+use crate::Pattern;
+use dpx_base::{Lanes, Link, Rate};
+
+/// What a sink can do, read from a block of sixteen capability registers.
+#[derive(Clone, Copy, Debug, PartialEq, Eq)]
+pub struct Caps {
+    pub rate: Rate,
+    pub lanes: Lanes,
+    pub tps3: bool,
+    pub tps4: bool,
+    /// The read interval: 0, or so many times 4 ms; at most 127.
+    pub interval: u8,
+}
+
+/// Why a block of capabilities is refused, with the byte that is at fault.
+#[derive(Clone, Copy, Debug, PartialEq, Eq)]
+pub enum CapsBad {
+    /// Bits 4:0 of byte 2 are not 1, 2 or 4.
+    BadLanes(u8),
+    /// Bit 7 of byte 2 is 0: no enhanced framing.
+    NoEnhanced(u8),
+    /// Byte 1 is below the code of RBR.
+    BadRate(u8),
+}
+
+/// Whether the block says that the extended field at 02200 is there: bit 7 of byte 0E.
+pub fn has_extended(bytes: &[u8; 16]) -> bool
+    ensures { IsTrue result ↔ HasExtended bytes.now }
+{
+    bytes[0x0e] >= 0x80
+}
+
+impl Caps {
+    /// Reads a block; the refusals come in the order of `CapsBad`.
+    pub fn read(bytes: &[u8; 16]) -> Result<Caps, CapsBad>
+        ensures value { result ≡ caps_from bytes.now }
+        ensures interval { IfOk result (λ caps. caps.interval ≤ 127) }
+    {
+        let Some(lanes) = Lanes::from_count(bytes[2] % 0x20) else {
+            return Err(CapsBad::BadLanes(bytes[2]));
+        };
+        if bytes[2] < 0x80 {
+            return Err(CapsBad::NoEnhanced(bytes[2]));
+        }
+        let Some(rate) = Rate::from_code(bytes[1]) else {
+            return Err(CapsBad::BadRate(bytes[1]));
+        };
+        Ok(Caps {
+            rate,
+            lanes,
+            tps3: bytes[2] / 0x40 % 2 == 1,
+            tps4: bytes[3] >= 0x80,
+            interval: bytes[0x0e] % 0x80,
+        })
+    }
+
+    /// The first configuration of a training: the lower rate and the fewer lanes of this sink and of `top`.
+    pub fn start(&self, top: Link) -> Link
+        ensures { result ≡ start_of self.now top }
+    {
+        Link {
+            rate: if self.rate.code() < top.rate.code() {
+                self.rate
+            } else {
+                top.rate
+            },
+            lanes: if self.lanes.count() < top.lanes.count() {
+                self.lanes
+            } else {
+                top.lanes
+            },
+            enhanced: top.enhanced,
+        }
+    }
+
+    /// The pattern for equalisation: the highest one that the sink knows.
+    pub fn pattern(&self) -> Pattern
+        ensures { result ≡ pattern_for self.now }
+    {
+        if self.tps4 {
+            Pattern::Tps4
+        } else if self.tps3 {
+            Pattern::Tps3
+        } else {
+            Pattern::Tps2
+        }
+    }
+}

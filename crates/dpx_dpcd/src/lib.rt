@@ -1,0 +1,16 @@
+//! The registers of a sink (DPCD): capabilities, status, drive, and what a modelled sink answers.
+//!
+//! * `caps`, `pattern`: what a sink can do, and the training pattern that follows from it
+//! * `registers`: the transactions that a source makes of them
+//! * `status`: the facts of six status bytes, and the drive that they ask for
+#![tactic(auto)]
+
+mod caps;
+mod pattern;
+mod registers;
+mod status;
+
+pub use caps::{Caps, CapsBad, has_extended};
+pub use pattern::Pattern;
+pub use registers::{read_block, read_status, write_registers};
+pub use status::{Drive, Status6};
