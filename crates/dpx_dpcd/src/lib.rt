@@ -2,15 +2,20 @@
 //!
 //! * `caps`, `pattern`: what a sink can do, and the training pattern that follows from it
 //! * `registers`: the transactions that a source makes of them
+//! * `channel`, `plan`: how a modelled channel behaves, and what a sink is to answer
 //! * `status`: the facts of six status bytes, and the drive that they ask for
 #![tactic(auto)]
 
 mod caps;
+mod channel;
 mod pattern;
+mod plan;
 mod registers;
 mod status;
 
 pub use caps::{Caps, CapsBad, has_extended};
+pub use channel::{Cell, Channel};
 pub use pattern::Pattern;
+pub use plan::{AnswerList, SinkPlan};
 pub use registers::{read_block, read_status, write_registers};
 pub use status::{Drive, Status6};

@@ -7,11 +7,7 @@ use dpx_aux::{AuxEnd, Data16, Request, transact};
 use dpx_base::AuxPort;
 
 /// Writes registers from `address` on, in one transaction.
-pub fn write_registers<P: AuxPort>(
-    port: &mut P,
-    address: u32,
-    bytes: &[u8],
-) -> Result<(), AuxEnd>
+pub fn write_registers<P: AuxPort>(port: &mut P, address: u32, bytes: &[u8]) -> Result<(), AuxEnd>
     requires some { 1 ≤ length bytes.now }
     requires few { length bytes.now ≤ 16 }
     requires within { address + length bytes.now ≤ 2 ^ 20 }
@@ -36,7 +32,13 @@ pub fn read_block<P: AuxPort>(port: &mut P, address: u32) -> Result<[u8; 16], Au
     ensures reads { Converses (ReadsBlock address) (P.state port.old) (P.state port.new) result }
     ensures few { (P.state port.new).asked ≤ (P.state port.old).asked + 8 }
 {
-    let block = transact(port, &Request::Read { address, length: 16 })?;
+    let block = transact(
+        port,
+        &Request::Read {
+            address,
+            length: 16,
+        },
+    )?;
     let mut bytes = [0; 16];
     bytes.copy_from_slice(block.as_slice());
     Ok(bytes)
@@ -48,7 +50,13 @@ pub fn read_status<P: AuxPort>(port: &mut P) -> Result<Status6, AuxEnd>
     ensures reads { Converses ReadsStatus (P.state port.old) (P.state port.new) result }
     ensures few { (P.state port.new).asked ≤ (P.state port.old).asked + 8 }
 {
-    let status = transact(port, &Request::Read { address: 0x0_0202, length: 6 })?;
+    let status = transact(
+        port,
+        &Request::Read {
+            address: 0x0_0202,
+            length: 6,
+        },
+    )?;
     let mut bytes = [0; 6];
     bytes.copy_from_slice(status.as_slice());
     Ok(Status6 { bytes })

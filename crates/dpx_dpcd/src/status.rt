@@ -62,7 +62,10 @@ impl Status6 {
         match lanes {
             Lanes::One => self.has(0, bits),
             Lanes::Two => self.has(0, bits) && self.has(1, bits),
-            Lanes::Four => self.has(0, bits) && self.has(1, bits) && self.has(2, bits) && self.has(3, bits),
+            Lanes::Four => self.has(0, bits)
+                && self.has(1, bits)
+                && self.has(2, bits)
+                && self.has(3, bits),
         }
     }
 
