@@ -12,5 +12,5 @@ mod request;
 mod transaction;
 
 pub use reply::{Reply, read_reply};
-pub use request::{Data16, Request, encode_request};
+pub use request::{AuxBad, Data16, Request, encode_request, read_request};
 pub use transaction::{AuxEnd, LastAnswer, transact};

@@ -1,5 +1,6 @@
-ghost use Rattle.std.specs.Prelude.{◌≡◌, ◌*◌, ◌^◌, ◌<◌, ◌≤◌, ◌++◌, length};
-ghost use Rattle.dpx_aux.specs.Request.{IsValid, request_bytes, header, address_of};
+ghost use Rattle.std.specs.Prelude.{◌≡◌, ◌*◌, ◌^◌, ◌<◌, ◌≤◌, ◌++◌, length, IfOk};
+ghost use Rattle.dpx_aux.specs.declared.request.Request.{Request};
+ghost use Rattle.dpx_aux.specs.Request.{IsValid, request_bytes, request_from, header, address_of};
 
 use arrayvec::ArrayVec;
 use dpx_base::{BoundedBytes, Bytes20};
@@ -14,6 +15,17 @@ pub enum Request {
     Read { address: u32, length: u8 },
     /// Brings bytes for `address` and the addresses behind it.
     Write { address: u32, bytes: Data16 },
+}
+
+/// Why bytes are those of no valid request.
+#[derive(Clone, Copy, Debug, PartialEq, Eq)]
+pub enum AuxBad {
+    /// So many bytes: fewer than four, or not the number that the length says.
+    BadLength(usize),
+    /// The first byte has neither command.
+    BadCommand(u8),
+    /// The bytes asked for or brought pass the last address.
+    BadAddress(u32),
 }
 
 const WRITE: u8 = 8;
@@ -48,6 +60,44 @@ fn encode(command: u8, address: u32, count: u8, payload: &[u8]) -> Bytes20
     bytes.push(count - 1);
     bytes.try_extend_from_slice(payload).unwrap();
     Bytes20::from_slice(bytes.as_slice())
+}
+
+/// The request that the bytes stand for. A refusal names the first fault: fewer than four bytes; the command; the length; the
+/// address.
+pub fn read_request(bytes: &[u8]) -> Result<Request, AuxBad>
+    ensures exact { result ≡ request_from bytes.now }
+    ensures valid { IfOk result IsValid }
+    ensures reads { IfOk result (λ request. bytes.now ≡ request_bytes request) }
+    ensures all { (request : Request) → IsValid request → bytes.now ≡ request_bytes request → result ≡ Ok request }
+{
+    let [first, middle, low, last, payload @ ..] = bytes else {
+        return Err(AuxBad::BadLength(bytes.len()));
+    };
+    let command = first / 16;
+    if command != WRITE && command != READ {
+        return Err(AuxBad::BadCommand(*first));
+    }
+    let expected = if command == READ {
+        0
+    } else {
+        usize::from(*last) + 1
+    };
+    if *last > 0x0f || payload.len() != expected {
+        return Err(AuxBad::BadLength(bytes.len()));
+    }
+    let address = u32::from(first % 16) * 0x1_0000 + u32::from(*middle) * 0x100 + u32::from(*low);
+    let length = last + 1;
+    if address + u32::from(length) > 0x10_0000 {
+        return Err(AuxBad::BadAddress(address));
+    }
+    if command == READ {
+        Ok(Request::Read { address, length })
+    } else {
+        Ok(Request::Write {
+            address,
+            bytes: Data16::from_slice(payload),
+        })
+    }
 }
 
 /// The address that the request begins at.
