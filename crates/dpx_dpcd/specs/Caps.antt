@@ -1,5 +1,5 @@
 -- Receiver capabilities: VESA DisplayPort 1.4a, DPCD 00000 to 0000F. The order of the refusals is this project's own.
-use Rattle.std.specs.Prelude.{◌≡◌, ℕ, ◌/◌, ◌%◌, ◌==◌, ◌≤◌, Bool, nat_lt, nat_le, if◌then◌else◌, List, slice_index, Option, Some, None, Result, Ok, Err}
+use Rattle.std.specs.Prelude.{ℕ, ◌/◌, ◌%◌, ◌==◌, Bool, nat_lt, nat_le, if◌then◌else◌, List, slice_index, Option, Some, None, Result, Ok, Err}
 use Rattle.dpx_base.specs.declared.rate.Rate.{Rate}
 use Rattle.dpx_base.specs.declared.lanes.Lanes.{Lanes}
 use Rattle.dpx_base.specs.declared.link.Link.{Link}
@@ -11,9 +11,9 @@ use Rattle.dpx_dpcd.specs.declared.caps.CapsBad.TheVariants.{BadLanes, NoEnhance
 use Rattle.dpx_dpcd.specs.declared.pattern.Pattern.{Pattern}
 use Rattle.dpx_dpcd.specs.declared.pattern.Pattern.TheVariants.{Tps2, Tps3, Tps4}
 
--- bit 7 of byte 0E
-abbrev pub HasExtended : List ℕ → Type 0
-HasExtended block = 0x80 ≤ slice_index block 0x0e
+-- bit 7 of byte 0E: there is an extended field
+abbrev pub says_extended : List ℕ → Bool
+says_extended block = nat_le 0x80 (slice_index block 0x0e)
 
 -- the rate is the last to be looked at
 abbrev pub with_rate : List ℕ → Lanes → Option Rate → Result Caps CapsBad

@@ -1,5 +1,5 @@
-ghost use Rattle.std.specs.Prelude.{◌≡◌, ◌≤◌, ◌↔◌, IsTrue, IfOk, slice_index};
-ghost use Rattle.dpx_dpcd.specs.Caps.{caps_from, start_of, pattern_for, HasExtended};
+ghost use Rattle.std.specs.Prelude.{◌≡◌, ◌≤◌, IfOk};
+ghost use Rattle.dpx_dpcd.specs.Caps.{caps_from, start_of, pattern_for, says_extended};
 
 use crate::Pattern;
 use dpx_base::{Lanes, Link, Rate};
@@ -28,7 +28,7 @@ pub enum CapsBad {
 
 /// Whether the block says that the extended field at 02200 is there: bit 7 of byte 0E.
 pub fn has_extended(bytes: &[u8; 16]) -> bool
-    ensures { IsTrue result ↔ HasExtended bytes.now }
+    ensures { result ≡ says_extended bytes.now }
 {
     bytes[0x0e] >= 0x80
 }
