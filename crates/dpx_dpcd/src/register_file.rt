@@ -216,3 +216,81 @@ impl RegFile {
             && self.link[2] % 16 != 1
     }
 }
+
+#[cfg(test)]
+mod tests {
+    use super::*;
+    use crate::Cell;
+    use dpx_aux::read_request;
+    use std::process::Abort;
+    use std::test::Fail;
+
+    const CAPS: [u8; 16] = [
+        0x12, 0x1e, 0xc4, 0x80, 0, 0, 0, 0, 0, 0, 0, 0, 0, 0, 0x80, 0x0f,
+    ];
+
+    const EXTENDED: [u8; 16] = [
+        0x14, 0x1e, 0xc4, 0x80, 0, 0, 0, 0, 0, 0, 0, 0, 0, 0, 0x81, 0xef,
+    ];
+
+    /// Asks for the requests in their order. Each acknowledgement has to bring what stands beside its request.
+    fn compare(rt: &impl Abort, file: &mut RegFile, steps: &[(&[u8], &[u8])]) -> Result<(), Fail> {
+        for (number, (bytes, brings)) in steps.iter().enumerate() {
+            let request = read_request(bytes)?;
+            let Reply::Ack(brought) = file.answer(&request) else {
+                return Err(Fail::new("no acknowledgement"));
+            };
+            assert_eq!(rt; brought.as_slice(), *brings, "at step {number}");
+        }
+        Ok(())
+    }
+
+    #[test]
+    fn perfect_sink_is_trained_at_hbr3_on_four_lanes(rt: HostRuntime) -> Result<(), Fail> {
+        let mut file = RegFile::new(CAPS, EXTENDED, Channel::perfect());
+        let steps: [(&[u8], &[u8]); 5] = [
+            (&[0x80, 0x01, 0x00, 1, 0x1e, 0x84], &[]),
+            (&[0x80, 0x01, 0x02, 4, 0x21, 0, 0, 0, 0], &[]),
+            (&[0x90, 0x02, 0x02, 5], &[0x11, 0x11, 0, 0, 0, 0]),
+            (&[0x80, 0x01, 0x02, 4, 0x07, 0, 0, 0, 0], &[]),
+            (&[0x90, 0x02, 0x02, 5], &[0x77, 0x77, 1, 0, 0, 0]),
+        ];
+        compare(&rt, &mut file, &steps)
+    }
+
+    #[test]
+    fn lane_recovers_and_equalises_with_the_drive_that_it_asks_for(
+        rt: HostRuntime,
+    ) -> Result<(), Fail> {
+        let mut channel = Channel::perfect();
+        channel.set(Rate::Rbr, 0, Cell::new(true, true, 2, 2));
+        let mut file = RegFile::new(CAPS, EXTENDED, channel);
+        let steps: [(&[u8], &[u8]); 7] = [
+            (&[0x80, 0x01, 0x00, 1, 0x06, 0x81], &[]),
+            (&[0x80, 0x01, 0x02, 1, 0x21, 0x00], &[]),
+            (&[0x90, 0x02, 0x02, 5], &[0, 0, 0, 0, 0x0a, 0]),
+            (&[0x80, 0x01, 0x03, 0, 0x2a], &[]),
+            (&[0x90, 0x02, 0x02, 5], &[0x01, 0, 0, 0, 0x0a, 0]),
+            (&[0x80, 0x01, 0x02, 1, 0x07, 0x2a], &[]),
+            (&[0x90, 0x02, 0x02, 5], &[0x07, 0, 1, 0, 0x0a, 0]),
+        ];
+        compare(&rt, &mut file, &steps)
+    }
+
+    #[test]
+    fn reads_and_writes_run_over_the_edges_of_known_ranges(rt: HostRuntime) -> Result<(), Fail> {
+        let mut file = RegFile::new(CAPS, EXTENDED, Channel::perfect());
+        let steps: [(&[u8], &[u8]); 9] = [
+            (&[0x90, 0x00, 0x0e, 3], &[0x80, 0x0f, 0, 0]),
+            (&[0x90, 0x21, 0xff, 1], &[0, 0x14]),
+            (&[0x90, 0x22, 0x0e, 3], &[0x81, 0xef, 0, 0]),
+            (&[0x80, 0x00, 0xfe, 3, 0xaa, 0xbb, 0x06, 0x81], &[]),
+            (&[0x90, 0x00, 0xfe, 4], &[0, 0, 0x06, 0x81, 0]),
+            (&[0x80, 0x01, 0x08, 1, 0x01, 0xcc], &[]),
+            (&[0x90, 0x01, 0x07, 3], &[0, 0x01, 0, 0]),
+            (&[0x80, 0x06, 0x00, 0, 0x01], &[]),
+            (&[0x90, 0x05, 0xff, 2], &[0, 0x01, 0]),
+        ];
+        compare(&rt, &mut file, &steps)
+    }
+}
