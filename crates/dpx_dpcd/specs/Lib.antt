@@ -1,6 +1,9 @@
 pub mod Caps
 pub mod Cell
 pub mod Channel
+pub mod LoadPort
 pub mod Pattern
+pub mod RegFile
 pub mod Registers
+pub mod SinkPlan
 pub mod Status

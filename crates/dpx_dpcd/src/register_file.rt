@@ -1,0 +1,296 @@
+ghost use Rattle.std.specs.Prelude.{◌≡◌, ℕ, ◌+◌, ◌-◌, ◌^◌, ◌==◌, ◌&&◌, ◌<◌, ◌≤◌, nat_lt, if◌then◌else◌, length, map, slice_index};
+ghost use Rattle.std.specs.List.{range_with_len};
+ghost use Rattle.dpx_base.specs.Lanes.{count_of, every_lane};
+ghost use Rattle.dpx_aux.specs.Request.{IsValid};
+ghost use Rattle.dpx_dpcd.specs.RegFile.{facts_of, registers_of, brought, registers_after, written, is_writable, shown, status_at, link_status, lane_pair, lane_status, lane_request, is_recovered, is_equalised, rate_with};
+
+use crate::Channel;
+use dpx_aux::{Data16, Reply, Request};
+use dpx_base::{Lanes, Rate};
+
+/// The registers of a modelled sink. They start at 00; reads show its capabilities and its status beside them.
+#[derive(Drop)]
+pub struct RegFile {
+    caps: [u8; 16],
+    extended: [u8; 16],
+    channel: Channel,
+    /// 00100 to 00108
+    link: [u8; 9],
+    /// 00600
+    power: u8,
+}
+
+impl RegFile {
+    #[tactic(auto, unfolding(crate::specs::RegFile::registers_of))]
+    pub fn new(caps: [u8; 16], extended: [u8; 16], channel: Channel) -> RegFile
+        ensures facts { facts_of result ≡ record { caps = caps; extended = extended; channel = channel } }
+        ensures registers { (address : ℕ) → registers_of result address ≡ 0 }
+    {
+        RegFile {
+            caps,
+            extended,
+            channel,
+            link: [0; 9],
+            power: 0,
+        }
+    }
+
+    /// Carries out the request, and acknowledges it.
+    pub fn answer(&mut self, request: &Request) -> Reply
+        requires { IsValid request.now }
+        ensures reply { result ≡ Reply.Ack (brought (facts_of self.old) (registers_of self.old) request.now) }
+        ensures registers { (address : ℕ) → registers_of self.new address ≡ registers_after request.now (registers_of self.old) address }
+        ensures facts { facts_of self.new ≡ facts_of self.old }
+    {
+        match request {
+            Request::Read { address, length } => Reply::Ack(self.read(*address, *length)),
+            Request::Write { address, bytes } => {
+                self.write(*address, bytes.as_slice());
+                Reply::Ack(Data16::from_slice(&[]))
+            }
+        }
+    }
+
+    fn read(&self, address: u32, length: u8) -> Data16
+        requires few { length ≤ 16 }
+        requires within { address + length ≤ 2 ^ 20 }
+        ensures { result ≡ map (shown (facts_of self.now) (registers_of self.now)) (range_with_len address length) }
+    {
+        let mut bytes = [0; 16];
+        for place in 0..length {
+            bytes[usize::from(place)] = self.shown(address + u32::from(place));
+        }
+        Data16::from_slice(&bytes[..usize::from(length)])
+    }
+
+    fn write(&mut self, address: u32, bytes: &[u8])
+        requires few { length bytes.now ≤ 16 }
+        requires within { address + length bytes.now ≤ 2 ^ 20 }
+        ensures registers { (x : ℕ) → registers_of self.new x ≡ written (registers_of self.old) address bytes.now x }
+        ensures facts { facts_of self.new ≡ facts_of self.old }
+    {
+        for (place, byte) in bytes.iter().enumerate() {
+            self.put(address + place as u32, *byte);
+        }
+    }
+
+    #[tactic(auto, unfolding(crate::specs::RegFile::registers_of))]
+    fn put(&mut self, address: u32, byte: u8)
+        ensures registers { (x : ℕ) → registers_of self.new x ≡ (if (x == address) && is_writable x then byte else registers_of self.old x) }
+        ensures facts { facts_of self.new ≡ facts_of self.old }
+    {
+        match address {
+            0x0_0100..=0x0_0108 => self.link[(address - 0x0_0100) as usize] = byte,
+            0x0_0600 => self.power = byte,
+            _ => {}
+        }
+    }
+
+    /// What a read shows at the address.
+    #[tactic(auto, unfolding(crate::specs::RegFile::shown, crate::specs::RegFile::registers_of))]
+    fn shown(&self, address: u32) -> u8
+        ensures { result ≡ shown (facts_of self.now) (registers_of self.now) address }
+    {
+        match address {
+            0x0_0000..=0x0_000f => self.caps[address as usize],
+            0x0_2200..=0x0_220f => self.extended[(address - 0x0_2200) as usize],
+            0x0_0100..=0x0_0108 => self.link[(address - 0x0_0100) as usize],
+            0x0_0600 => self.power,
+            0x0_0202..=0x0_0207 => self.status(address),
+            _ => 0,
+        }
+    }
+
+    #[tactic(auto, unfolding(crate::specs::RegFile::status_at, crate::specs::RegFile::registers_of))]
+    fn status(&self, address: u32) -> u8
+        ensures { result ≡ status_at self.now.channel (registers_of self.now) address }
+    {
+        let lanes = Lanes::from_count(self.link[1] % 0x20);
+        match (self.rate(), lanes) {
+            (Some(rate), Some(lanes)) => self.link_status(rate, lanes, address),
+            _ => 0,
+        }
+    }
+
+    #[tactic(auto, unfolding(crate::specs::RegFile::registers_of))]
+    fn rate(&self) -> Option<Rate>
+        ensures { result ≡ rate_with (registers_of self.now 0x100) }
+    {
+        match self.link[0] {
+            0x06 => Some(Rate::Rbr),
+            0x0a => Some(Rate::Hbr),
+            0x14 => Some(Rate::Hbr2),
+            0x1e => Some(Rate::Hbr3),
+            _ => None,
+        }
+    }
+
+    #[tactic(auto, unfolding(crate::specs::RegFile::link_status))]
+    fn link_status(&self, rate: Rate, lanes: Lanes, address: u32) -> u8
+        ensures { result ≡ link_status self.now.channel (registers_of self.now) rate lanes address }
+    {
+        match address {
+            0x0_0202 => self.status_pair(rate, lanes, 0),
+            0x0_0203 => self.status_pair(rate, lanes, 2),
+            0x0_0204 => u8::from(self.is_aligned(rate, lanes)),
+            0x0_0206 => self.request_pair(rate, lanes, 0),
+            0x0_0207 => self.request_pair(rate, lanes, 2),
+            _ => 0,
+        }
+    }
+
+    fn status_pair(&self, rate: Rate, lanes: Lanes, lane: u8) -> u8
+        requires { lane < 3 }
+        ensures { result ≡ lane_pair lanes (lane_status self.now.channel (registers_of self.now) rate) lane }
+    {
+        self.lane_status(rate, lanes, lane) + 16 * self.lane_status(rate, lanes, lane + 1)
+    }
+
+    #[tactic(auto, unfolding(crate::specs::RegFile::lane_status, crate::specs::RegFile::is_equalised))]
+    fn lane_status(&self, rate: Rate, lanes: Lanes, lane: u8) -> u8
+        requires { lane < 4 }
+        ensures value { result ≡ (if nat_lt lane (count_of lanes) then lane_status self.now.channel (registers_of self.now) rate lane else 0) }
+        ensures bound { result < 8 }
+    {
+        if lane >= lanes.count() {
+            0
+        } else if self.is_equalised(rate, lane) {
+            7
+        } else if self.is_recovered(rate, lane) {
+            1
+        } else {
+            0
+        }
+    }
+
+    fn request_pair(&self, rate: Rate, lanes: Lanes, lane: u8) -> u8
+        requires { lane < 3 }
+        ensures { result ≡ lane_pair lanes (lane_request self.now.channel rate) lane }
+    {
+        self.lane_request(rate, lanes, lane) + 16 * self.lane_request(rate, lanes, lane + 1)
+    }
+
+    #[tactic(auto, unfolding(crate::specs::RegFile::lane_request))]
+    fn lane_request(&self, rate: Rate, lanes: Lanes, lane: u8) -> u8
+        requires { lane < 4 }
+        ensures value { result ≡ (if nat_lt lane (count_of lanes) then lane_request self.now.channel rate lane else 0) }
+        ensures bound { result < 16 }
+    {
+        if lane >= lanes.count() {
+            return 0;
+        }
+        let cell = self.channel.cell(rate, lane);
+        cell.swing() + 4 * cell.emph()
+    }
+
+    fn is_aligned(&self, rate: Rate, lanes: Lanes) -> bool
+        ensures { result ≡ every_lane lanes (is_equalised self.now.channel (registers_of self.now) rate) }
+    {
+        match lanes {
+            Lanes::One => self.is_equalised(rate, 0),
+            Lanes::Two => self.is_equalised(rate, 0) && self.is_equalised(rate, 1),
+            Lanes::Four => self.is_equalised(rate, 0)
+                && self.is_equalised(rate, 1)
+                && self.is_equalised(rate, 2)
+                && self.is_equalised(rate, 3),
+        }
+    }
+
+    #[tactic(auto, unfolding(crate::specs::RegFile::is_recovered, crate::specs::RegFile::registers_of))]
+    fn is_recovered(&self, rate: Rate, lane: u8) -> bool
+        requires { lane < 4 }
+        ensures { result ≡ is_recovered self.now.channel (registers_of self.now) rate lane }
+    {
+        let cell = self.channel.cell(rate, lane);
+        let drive = self.link[usize::from(3 + lane)];
+        cell.cr() && drive % 4 == cell.swing() && drive / 8 % 4 == cell.emph().min(3 - cell.swing())
+    }
+
+    #[tactic(auto, unfolding(crate::specs::RegFile::is_equalised, crate::specs::RegFile::registers_of))]
+    fn is_equalised(&self, rate: Rate, lane: u8) -> bool
+        requires { lane < 4 }
+        ensures { result ≡ is_equalised self.now.channel (registers_of self.now) rate lane }
+    {
+        self.is_recovered(rate, lane)
+            && self.channel.cell(rate, lane).eq()
+            && self.link[2] % 16 != 1
+    }
+}
+
+#[cfg(test)]
+mod tests {
+    use super::*;
+    use crate::Cell;
+    use dpx_aux::read_request;
+    use std::process::Abort;
+    use std::test::Fail;
+
+    const CAPS: [u8; 16] = [
+        0x12, 0x1e, 0xc4, 0x80, 0, 0, 0, 0, 0, 0, 0, 0, 0, 0, 0x80, 0x0f,
+    ];
+
+    const EXTENDED: [u8; 16] = [
+        0x14, 0x1e, 0xc4, 0x80, 0, 0, 0, 0, 0, 0, 0, 0, 0, 0, 0x81, 0xef,
+    ];
+
+    /// Asks for the requests in their order. Each acknowledgement has to bring what stands beside its request.
+    fn compare(rt: &impl Abort, file: &mut RegFile, steps: &[(&[u8], &[u8])]) -> Result<(), Fail> {
+        for (number, (bytes, brings)) in steps.iter().enumerate() {
+            let request = read_request(bytes)?;
+            let Reply::Ack(brought) = file.answer(&request) else {
+                return Err(Fail::new("no acknowledgement"));
+            };
+            assert_eq!(rt; brought.as_slice(), *brings, "at step {number}");
+        }
+        Ok(())
+    }
+
+    #[test]
+    fn perfect_sink_is_trained_at_hbr3_on_four_lanes(rt: HostRuntime) -> Result<(), Fail> {
+        let mut file = RegFile::new(CAPS, EXTENDED, Channel::perfect());
+        let steps: [(&[u8], &[u8]); 5] = [
+            (&[0x80, 0x01, 0x00, 1, 0x1e, 0x84], &[]),
+            (&[0x80, 0x01, 0x02, 4, 0x21, 0, 0, 0, 0], &[]),
+            (&[0x90, 0x02, 0x02, 5], &[0x11, 0x11, 0, 0, 0, 0]),
+            (&[0x80, 0x01, 0x02, 4, 0x07, 0, 0, 0, 0], &[]),
+            (&[0x90, 0x02, 0x02, 5], &[0x77, 0x77, 1, 0, 0, 0]),
+        ];
+        compare(&rt, &mut file, &steps)
+    }
+
+    #[test]
+    fn lane_recovers_and_equalises_with_the_drive_that_it_asks_for(
+        rt: HostRuntime,
+    ) -> Result<(), Fail> {
+        let mut channel = Channel::perfect();
+        channel.set(Rate::Rbr, 0, Cell::new(true, true, 2, 2));
+        let mut file = RegFile::new(CAPS, EXTENDED, channel);
+        let steps: [(&[u8], &[u8]); 7] = [
+            (&[0x80, 0x01, 0x00, 1, 0x06, 0x81], &[]),
+            (&[0x80, 0x01, 0x02, 1, 0x21, 0x00], &[]),
+            (&[0x90, 0x02, 0x02, 5], &[0, 0, 0, 0, 0x0a, 0]),
+            (&[0x80, 0x01, 0x03, 0, 0x2a], &[]),
+            (&[0x90, 0x02, 0x02, 5], &[0x01, 0, 0, 0, 0x0a, 0]),
+            (&[0x80, 0x01, 0x02, 1, 0x07, 0x2a], &[]),
+            (&[0x90, 0x02, 0x02, 5], &[0x07, 0, 1, 0, 0x0a, 0]),
+        ];
+        compare(&rt, &mut file, &steps)
+    }
+
+    #[test]
+    fn reads_and_writes_run_over_the_edges_of_known_ranges(rt: HostRuntime) -> Result<(), Fail> {
+        let mut file = RegFile::new(CAPS, EXTENDED, Channel::perfect());
+        let steps: [(&[u8], &[u8]); 9] = [
+            (&[0x90, 0x00, 0x0e, 3], &[0x80, 0x0f, 0, 0]),
+            (&[0x90, 0x21, 0xff, 1], &[0, 0x14]),
+            (&[0x90, 0x22, 0x0e, 3], &[0x81, 0xef, 0, 0]),
+            (&[0x80, 0x00, 0xfe, 3, 0xaa, 0xbb, 0x06, 0x81], &[]),
+            (&[0x90, 0x00, 0xfe, 4], &[0, 0, 0x06, 0x81, 0]),
+            (&[0x80, 0x01, 0x08, 1, 0x01, 0xcc], &[]),
+            (&[0x90, 0x01, 0x07, 3], &[0, 0x01, 0, 0]),
+            (&[0x80, 0x06, 0x00, 0, 0x01], &[]),
+            (&[0x90, 0x05, 0xff, 2], &[0, 0x01, 0]),
+        ];
+        compare(&rt, &mut file, &steps)
+    }
+}
