@@ -29,7 +29,8 @@ is_writable address = is_among 0x00100 9 address || (address == 0x00600)
 -- registers after these bytes were written from the first address on
 unfoldable pub written : (ℕ → ℕ) → ℕ → List ℕ → ℕ → ℕ
 written registers first bytes address =
-    if is_writable address && is_among first (length bytes) address then slice_index bytes (address - first) else registers address
+    if is_writable address && is_among first (length bytes) address then slice_index bytes (address - first)
+    else registers address
 
 -- the rate with exactly this code
 abbrev pub rate_with : ℕ → Option Rate
@@ -56,16 +57,20 @@ is_equalised channel registers rate lane =
 -- bit 0: recovered; bits 1 and 2: equalised and locked to the symbols
 unfoldable pub lane_status : List CellFacts → (ℕ → ℕ) → Rate → ℕ → ℕ
 lane_status channel registers rate lane =
-    (if is_recovered channel registers rate lane then 1 else 0) + (if is_equalised channel registers rate lane then 6 else 0)
+    (if is_recovered channel registers rate lane then 1 else 0)
+    + (if is_equalised channel registers rate lane then 6 else 0)
 
 -- the drive that a lane asks for: swing in bits 1:0, emphasis in bits 3:2
 unfoldable pub lane_request : List CellFacts → Rate → ℕ → ℕ
 lane_request channel rate lane = (cell_at channel rate lane).swing + 4 * (cell_at channel rate lane).emph
 
--- two lanes share a byte, the lower lane has the low bits; 0 for a lane that is not in use
+-- a lane's four bits; 0 where the lane is not in use
+abbrev pub bits_in_use : Lanes → (ℕ → ℕ) → ℕ → ℕ
+bits_in_use lanes bits lane = if nat_lt lane (count_of lanes) then bits lane else 0
+
+-- two lanes share a byte, the lower lane has the low bits
 abbrev pub lane_pair : Lanes → (ℕ → ℕ) → ℕ → ℕ
-lane_pair lanes bits lane =
-    (if nat_lt lane (count_of lanes) then bits lane else 0) + 16 * (if nat_lt (lane + 1) (count_of lanes) then bits (lane + 1) else 0)
+lane_pair lanes bits lane = bits_in_use lanes bits lane + 16 * bits_in_use lanes bits (lane + 1)
 
 -- a status byte for a link that is set up
 unfoldable pub link_status : List CellFacts → (ℕ → ℕ) → Rate → Lanes → ℕ → ℕ
@@ -86,7 +91,8 @@ of_link (Some rate) (Some lanes) byte = byte rate lanes
 -- a status byte: the rate is that of 00100, the lanes are those of 00101, bits 4:0
 unfoldable pub status_at : List CellFacts → (ℕ → ℕ) → ℕ → ℕ
 status_at channel registers address =
-    of_link (rate_with (registers 0x00100)) (lanes_from (registers 0x00101 % 0x20)) (λ rate lanes. link_status channel registers rate lanes address)
+    of_link (rate_with (registers 0x00100)) (lanes_from (registers 0x00101 % 0x20)) (λ rate lanes.
+    link_status channel registers rate lanes address)
 
 -- what a read shows at an address
 unfoldable pub shown : SinkFacts → (ℕ → ℕ) → ℕ → ℕ

@@ -1,5 +1,5 @@
 -- What a sink answers to the bytes that it is asked, ask by ask: this project's own.
-use Rattle.std.specs.Prelude.{ℕ, ◌+◌, ◌%◌, Bool, nat_lt, if◌then◌else◌, List, [], ◌∷◌, ◌++◌, length, take, replicate, Result, Ok, Err}
+use Rattle.std.specs.Prelude.{ℕ, ◌+◌, ◌%◌, Bool, nat_lt, if◌then◌else◌, List, [], ◌∷◌, ◌++◌, length, map, take, replicate, Result, Ok, Err}
 use Rattle.std.specs.List.{scan}
 use Rattle.dpx_base.specs.declared.aux_port.Answer.{Answer}
 use Rattle.dpx_base.specs.declared.aux_port.Answer.TheVariants.{Silent, Bytes}
@@ -27,7 +27,8 @@ is_deferred defers count = nat_lt (count % (defers + 1)) defers
 unfoldable pub sink_answer : SinkFacts → ℕ → SinkState → Result Request AuxBad → Answer
 sink_answer sink defers state (Err bad) = Silent
 sink_answer sink defers state (Ok request) =
-    if is_deferred defers state.requests then Bytes (0x20 ∷ []) else Bytes (0x00 ∷ brought sink state.registers request)
+    if is_deferred defers state.requests then Bytes (0x20 ∷ [])
+    else Bytes (0x00 ∷ brought sink state.registers request)
 
 -- A request that is deferred is counted and changes no register; bytes that are no request change nothing.
 unfoldable pub sink_after : ℕ → SinkState → Result Request AuxBad → SinkState
@@ -40,7 +41,7 @@ sink_after defers state (Ok request) = record {
 -- what a modelled sink that stands so answers to these bytes, ask by ask
 abbrev pub sink_answers : SinkFacts → ℕ → SinkState → List (List ℕ) → List Answer
 sink_answers sink defers state requests =
-    scan (λ before bytes. sink_after defers before (request_from bytes)) (λ before bytes. sink_answer sink defers before (request_from bytes)) state requests
+    scan (sink_after defers) (sink_answer sink defers) state (map request_from requests)
 
 -- a script's answers, and silence behind them
 abbrev pub script_answers : List Answer → List (List ℕ) → List Answer

@@ -1,8 +1,8 @@
-ghost use Rattle.std.specs.Prelude.{◌≡◌, ℕ, ◌+◌, ◌-◌, ◌^◌, ◌==◌, ◌&&◌, ◌<◌, ◌≤◌, nat_lt, if◌then◌else◌, length, map, slice_index};
+ghost use Rattle.std.specs.Prelude.{◌≡◌, ℕ, ◌+◌, ◌-◌, ◌^◌, ◌==◌, ◌&&◌, ◌<◌, ◌≤◌, if◌then◌else◌, length, map, slice_index};
 ghost use Rattle.std.specs.List.{range_with_len};
-ghost use Rattle.dpx_base.specs.Lanes.{count_of, every_lane};
+ghost use Rattle.dpx_base.specs.Lanes.{every_lane};
 ghost use Rattle.dpx_aux.specs.Request.{IsValid};
-ghost use Rattle.dpx_dpcd.specs.RegFile.{facts_of, registers_of, brought, registers_after, written, is_writable, shown, status_at, link_status, lane_pair, lane_status, lane_request, is_recovered, is_equalised, rate_with};
+ghost use Rattle.dpx_dpcd.specs.RegFile.{facts_of, registers_of, brought, registers_after, written, is_writable, shown, status_at, link_status, bits_in_use, lane_pair, lane_status, lane_request, is_recovered, is_equalised, rate_with};
 
 use crate::Channel;
 use dpx_aux::{Data16, Reply, Request};
@@ -39,7 +39,8 @@ impl RegFile {
     pub fn answer(&mut self, request: &Request) -> Reply
         requires { IsValid request.now }
         ensures reply { result ≡ Reply.Ack (brought (facts_of self.old) (registers_of self.old) request.now) }
-        ensures registers { (address : ℕ) → registers_of self.new address ≡ registers_after request.now (registers_of self.old) address }
+        ensures registers { (address : ℕ) →
+            registers_of self.new address ≡ registers_after request.now (registers_of self.old) address }
         ensures facts { facts_of self.new ≡ facts_of self.old }
     {
         match request {
@@ -66,7 +67,8 @@ impl RegFile {
     fn write(&mut self, address: u32, bytes: &[u8])
         requires few { length bytes.now ≤ 16 }
         requires within { address + length bytes.now ≤ 2 ^ 20 }
-        ensures registers { (x : ℕ) → registers_of self.new x ≡ written (registers_of self.old) address bytes.now x }
+        ensures registers { (x : ℕ) →
+            registers_of self.new x ≡ written (registers_of self.old) address bytes.now x }
         ensures facts { facts_of self.new ≡ facts_of self.old }
     {
         for (place, byte) in bytes.iter().enumerate() {
@@ -76,7 +78,8 @@ impl RegFile {
 
     #[tactic(auto, unfolding(crate::specs::RegFile::registers_of))]
     fn put(&mut self, address: u32, byte: u8)
-        ensures registers { (x : ℕ) → registers_of self.new x ≡ (if (x == address) && is_writable x then byte else registers_of self.old x) }
+        ensures registers { (x : ℕ) →
+            registers_of self.new x ≡ (if (x == address) && is_writable x then byte else registers_of self.old x) }
         ensures facts { facts_of self.new ≡ facts_of self.old }
     {
         match address {
@@ -149,7 +152,7 @@ impl RegFile {
     #[tactic(auto, unfolding(crate::specs::RegFile::lane_status, crate::specs::RegFile::is_equalised))]
     fn lane_status(&self, rate: Rate, lanes: Lanes, lane: u8) -> u8
         requires { lane < 4 }
-        ensures value { result ≡ (if nat_lt lane (count_of lanes) then lane_status self.now.channel (registers_of self.now) rate lane else 0) }
+        ensures value { result ≡ bits_in_use lanes (lane_status self.now.channel (registers_of self.now) rate) lane }
         ensures bound { result < 8 }
     {
         if lane >= lanes.count() {
@@ -173,7 +176,7 @@ impl RegFile {
     #[tactic(auto, unfolding(crate::specs::RegFile::lane_request))]
     fn lane_request(&self, rate: Rate, lanes: Lanes, lane: u8) -> u8
         requires { lane < 4 }
-        ensures value { result ≡ (if nat_lt lane (count_of lanes) then lane_request self.now.channel rate lane else 0) }
+        ensures value { result ≡ bits_in_use lanes (lane_request self.now.channel rate) lane }
         ensures bound { result < 16 }
     {
         if lane >= lanes.count() {

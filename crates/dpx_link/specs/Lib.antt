@@ -1,0 +1,3 @@
+pub mod Attempt
+pub mod Fallback
+pub mod Training

@@ -1,0 +1,9 @@
+pub mod Statuses
+pub mod Alike
+pub mod Endings
+pub mod Rounds
+pub mod Levels
+pub mod Turns
+pub mod Least
+pub mod Decided
+pub mod Honest

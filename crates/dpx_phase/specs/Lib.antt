@@ -1,0 +1,4 @@
+pub mod Drives
+pub mod Endings
+pub mod Laws
+pub mod Phases

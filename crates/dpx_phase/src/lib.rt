@@ -1,0 +1,22 @@
+//! The two phases of link training: clock recovery and channel equalisation.
+//!
+//! * `phase_end`: how a phase ends
+//! * `recovery`, `equalisation`: the two phases
+//! * `laws`: what the definitions obey
+//! * `steps`: the transactions of a round
+//! * `swings`: the swings of the lanes in use
+#![tactic(auto)]
+
+mod equalisation;
+mod laws;
+mod phase_end;
+mod recovery;
+mod steps;
+mod swings;
+#[cfg(test)]
+mod tests;
+
+pub use equalisation::equalise;
+pub use laws::{ends_in_time, ends_once, is_decided, is_honest};
+pub use phase_end::{FailCause, PhaseEnd};
+pub use recovery::recover;
