@@ -1,0 +1,4 @@
+pub mod Jobs
+pub mod LineSteps
+pub mod Rows
+pub mod Transfers

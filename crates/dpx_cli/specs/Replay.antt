@@ -1,0 +1,140 @@
+-- What the top call does, by its outcome: this project's own.
+use Rattle.std.specs.Prelude.{◌≡◌, ◌≢◌, ◌⊎◌, ℕ, ◌≤◌, List, length, Option, Some, None, IsSome, IfSome, IsOk, IsErr, Result, Ok, Err, MatchResult, ⊤}
+use Rattle.std.specs.Io.KnownBytes.{Appends, IsAtEnd}
+use Rattle.dpx_base.specs.declared.aux_port.Entry.{Entry}
+use Rattle.dpx_base.specs.declared.link.Link.{Link}
+use Rattle.dpx_base.specs.Port.{PortState, asks}
+use Rattle.dpx_dpcd.specs.declared.plan.SinkPlan.{SinkPlan}
+use Rattle.dpx_files.specs.declared.job.Job.{Job}
+use Rattle.dpx_files.specs.declared.job.Job.TheVariants as job
+use Rattle.dpx_files.specs.declared.job.Need.TheVariants as need
+use Rattle.dpx_files.specs.declared.refusal.JobBad.{JobBad}
+use Rattle.dpx_files.specs.declared.refusal.JobBad.TheVariants.{TooLong, NotJson, Wrong, Memory}
+use Rattle.dpx_files.specs.Job.{reading}
+use Rattle.dpx_link.specs.declared.train_end.TrainEnd.{TrainEnd}
+use Rattle.dpx_link.specs.declared.train_end.TrainEnd.TheVariants.{Trained, NotTrained, CapsRefused, AuxEnded}
+use Rattle.dpx_link.specs.Training.{Training, IsGood}
+use Rattle.dpx_cli.specs.declared.outcome.Outcome.{Outcome}
+use Rattle.dpx_cli.specs.declared.outcome.Outcome.TheVariants as outcome
+use Rattle.dpx_cli.specs.Outcome.{memory_line, report_of, status_of, train_status}
+use Rattle.dpx_cli.specs.Lines.{train_report}
+use Rattle.dpx_cli.specs.Transfer.{AppendsFront}
+use Rattle.dpx_cli.specs.Words.{command_of}
+
+-- The job's sink was loaded and its link trained, and that ended so. `left` is what the source told before the call and
+-- after it, `sink` what the port tells after it.
+pub record TrainedAs (left_before left_now : Option (List ℕ)) (sink : PortState SinkPlan) (end : TrainEnd) : Type 0 where
+  pub link : Link
+  pub plan : SinkPlan
+  pub entries : List Entry
+  pub asked_for : IfSome left_before (λ bytes. reading need.Train bytes ≡ Ok (job.Train link plan))
+  pub read_whole : IsAtEnd left_now
+  pub loaded : IfSome sink.plan (λ told. told ≡ plan)
+  pub training : Training link end entries
+  pub history : IfSome sink.history (λ told. told ≡ entries)
+  pub counted : sink.asked ≡ asks entries
+  pub few : sink.asked ≤ 3104
+  pub good : IsGood end
+
+-- A job is refused for what its bytes are; but for a job that is too long, they were read to the end.
+pub record RefusedAs (left_before left_now : Option (List ℕ)) (why : JobBad) : Type 0 where
+  pub reads : IfSome left_before (λ bytes. reading need.Train bytes ≡ Err why)
+  pub read_whole : (why ≡ TooLong) ⊎ IsAtEnd left_now
+  pub named : why ≢ Memory
+
+-- the job that a source has, or why there is none
+pub record HasJob (left_before left_now : Option (List ℕ)) (asked : Job) : Type 0 where
+  pub reads : IfSome left_before (λ bytes. reading need.Train bytes ≡ Ok asked)
+  pub read_whole : IsAtEnd left_now
+
+abbrev pub HasNoJob : (left_before left_now : Option (List ℕ)) (ReadFailed : Type 0) → Outcome → Type 0
+HasNoJob left_before left_now ReadFailed outcome.Usage = ⊥
+HasNoJob left_before left_now ReadFailed (outcome.NoJob why) = RefusedAs left_before left_now why
+HasNoJob left_before left_now ReadFailed outcome.ReadFault = ReadFailed
+HasNoJob left_before left_now ReadFailed outcome.NoMemory = ⊤
+HasNoJob left_before left_now ReadFailed (outcome.Ended end) = ⊥
+
+abbrev pub ReadsJob : (left_before left_now : Option (List ℕ)) (ReadFailed : Type 0) → Result Job Outcome → Type 0
+ReadsJob left_before left_now ReadFailed result =
+    MatchResult result (HasJob left_before left_now) (HasNoJob left_before left_now ReadFailed)
+
+-- what training comes to
+abbrev pub Trains : (left_before left_now : Option (List ℕ)) (ReadFailed SinkKept : Type 0) (sink : PortState SinkPlan) → Outcome → Type 0
+Trains left_before left_now ReadFailed SinkKept sink outcome.Usage = ⊥
+Trains left_before left_now ReadFailed SinkKept sink (outcome.NoJob why) = RefusedAs left_before left_now why × SinkKept
+Trains left_before left_now ReadFailed SinkKept sink outcome.ReadFault = ReadFailed × SinkKept
+Trains left_before left_now ReadFailed SinkKept sink outcome.NoMemory = SinkKept
+Trains left_before left_now ReadFailed SinkKept sink (outcome.Ended end) = TrainedAs left_before left_now sink end
+
+-- Each outcome has its cause, and says what became of the source and of the sink: `ReadFailed`, `SourceKept` and
+-- `SinkKept` are the facts of a call that a read failed, that the source is as it was, and that the sink is.
+abbrev pub Caused : (words : List (List ℕ)) (left_before left_now : Option (List ℕ)) (ReadFailed SourceKept SinkKept : Type 0) (sink : PortState SinkPlan) → Outcome → Type 0
+Caused words left_before left_now ReadFailed SourceKept SinkKept sink outcome.Usage = (command_of words ≡ None) × SourceKept × SinkKept
+Caused words left_before left_now ReadFailed SourceKept SinkKept sink (outcome.NoJob why) = IsSome (command_of words) × RefusedAs left_before left_now why × SinkKept
+Caused words left_before left_now ReadFailed SourceKept SinkKept sink outcome.ReadFault = IsSome (command_of words) × ReadFailed × SinkKept
+Caused words left_before left_now ReadFailed SourceKept SinkKept sink outcome.NoMemory = SinkKept
+Caused words left_before left_now ReadFailed SourceKept SinkKept sink (outcome.Ended end) = IsSome (command_of words) × TrainedAs left_before left_now sink end
+
+-- the text was written whole, and this is the status
+pub record Wrote (text : List ℕ) (status : ℕ) (taken_before taken_now : Option (List ℕ)) (result : ℕ) : Type 0 where
+  pub answered : result ≡ status
+  pub taken : Appends taken_before taken_now text
+
+-- a write failed: a front of the text was taken, and the status is 8
+pub record Broke (text : List ℕ) (WriteFailed : Type 0) (taken_before taken_now : Option (List ℕ)) (result : ℕ) : Type 0 where
+  pub answered : result ≡ 8
+  pub failed : WriteFailed
+  pub taken : AppendsFront taken_before taken_now text
+
+abbrev pub Tells : (text : List ℕ) (status : ℕ) (WriteFailed : Type 0) (taken_before taken_now : Option (List ℕ)) (result : ℕ) → Type 0
+Tells text status WriteFailed taken_before taken_now result =
+    Wrote text status taken_before taken_now result ⊎ Broke text WriteFailed taken_before taken_now result
+
+-- an outcome is reported; or there was no memory for its report, and that is told
+abbrev pub Reported : Outcome → (WriteFailed : Type 0) (taken_before taken_now : Option (List ℕ)) (result : ℕ) → Type 0
+Reported outcome WriteFailed taken_before taken_now result =
+    Tells (report_of outcome) (status_of outcome) WriteFailed taken_before taken_now result ⊎ Tells memory_line 10 WriteFailed taken_before taken_now result
+
+-- What a call does: it comes to an outcome, which has its cause and is reported.
+pub record Does (words : List (List ℕ)) (left_before left_now : Option (List ℕ)) (ReadFailed SourceKept SinkKept : Type 0) (sink : PortState SinkPlan) (WriteFailed : Type 0) (taken_before taken_now : Option (List ℕ)) (result : ℕ) : Type 0 where
+  pub outcome : Outcome
+  pub caused : Caused words left_before left_now ReadFailed SourceKept SinkKept sink outcome
+  pub reported : Reported outcome WriteFailed taken_before taken_now result
+
+-- no fault was met, and there was memory
+pub record IsClean (result : ℕ) : Type 0 where
+  pub read : result ≢ 7
+  pub written : result ≢ 8
+  pub memory : result ≢ 10
+
+-- the status comes only with its cause, and always with it where no fault was met and there was memory
+pub record Exactly (status : ℕ) (Cause : Type 0) (result : ℕ) : Type 0 where
+  pub only : result ≡ status → Cause
+  pub always : Cause → IsClean result → result ≡ status
+
+-- a training ended, with this status, and its report was printed
+pub record Ended (left_before left_now : Option (List ℕ)) (sink : PortState SinkPlan) (taken_before taken_now : Option (List ℕ)) (result : ℕ) : Type 0 where
+  pub end : TrainEnd
+  pub trained : TrainedAs left_before left_now sink end
+  pub status : result ≡ train_status end
+  pub printed : Appends taken_before taken_now (train_report end)
+
+-- the job was loaded and a training ended, whatever was printed of it
+pub record Loaded (left_before left_now : Option (List ℕ)) (sink : PortState SinkPlan) : Type 0 where
+  pub end : TrainEnd
+  pub trained : TrainedAs left_before left_now sink end
+
+-- 0 and 4: a training ended
+abbrev pub SaysEnded : ℕ → Type 0
+SaysEnded status = (status ≡ 0) ⊎ (status ≡ 4)
+
+-- there is no other status
+abbrev pub IsStatus : ℕ → Type 0
+IsStatus n = (n ≡ 0) ⊎ (n ≡ 2) ⊎ (n ≡ 3) ⊎ (n ≡ 4) ⊎ (n ≡ 7) ⊎ (n ≡ 8) ⊎ (n ≡ 10)
+
+-- the bytes are those of a job
+abbrev pub IsJob : List ℕ → Type 0
+IsJob bytes = IsOk (reading need.Train bytes)
+
+abbrev pub IsNoJob : List ℕ → Type 0
+IsNoJob bytes = IsErr (reading need.Train bytes)

@@ -1,0 +1,27 @@
+-- The words of the command line: this project's own.
+use Rattle.std.specs.Prelude.{◌≡◌, ◌==◌, ◌&&◌, Bool, not, if◌then◌else◌, List, [], ◌∷◌, codes, slice_index, Option, Some, None, Result, MatchResult, ⊤, ℕ}
+use Rattle.std.specs.Str.{bytes_eq}
+use Rattle.dpx_cli.specs.declared.words.Command.{Command}
+use Rattle.dpx_cli.specs.declared.words.Command.TheVariants.{Train}
+use Rattle.dpx_cli.specs.declared.words.WordsEnd.{WordsEnd}
+use Rattle.dpx_cli.specs.declared.words.WordsEnd.TheVariants.{Usage, Memory}
+
+-- a name is any word that does not begin with `-`
+abbrev pub is_name : List ℕ → Bool
+is_name word = not (slice_index word 0 == 45)
+
+-- the command that the words ask for, if they have a reading
+abbrev pub command_of : List (List ℕ) → Option Command
+command_of [] = None
+command_of (word ∷ []) = None
+command_of (word ∷ job ∷ []) = if bytes_eq word (codes "train") && is_name job then Some (Train job) else None
+command_of (word ∷ job ∷ more ∷ words) = None
+
+-- words are refused where they have no reading, or where there is no memory
+abbrev pub RefusedAs : Option Command → WordsEnd → Type 0
+RefusedAs read Usage = read ≡ None
+RefusedAs read Memory = ⊤
+
+-- the words are read as they are, unless there is no memory for it
+abbrev pub ReadsAs : Option Command → Result Command WordsEnd → Type 0
+ReadsAs read result = MatchResult result (λ command. read ≡ Some command) (λ end. RefusedAs read end)

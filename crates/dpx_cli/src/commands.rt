@@ -1,0 +1,117 @@
+ghost use Rattle.std.specs.Prelude.{◌≡◌, ◌⊎◌, None, IsSome, IfSome, IsSomeAnd, map, string_bytes};
+ghost use Rattle.dpx_base.specs.Faults.{Rose};
+ghost use Rattle.dpx_cli.specs.Words.{command_of};
+ghost use Rattle.dpx_cli.specs.Replay.{Caused, Trains, ReadsJob, Reported, Tells, Does, IsClean, Exactly, Ended, Loaded, SaysEnded, IsStatus, IsJob, IsNoJob};
+
+use crate::outcome::{MEMORY, Outcome, no_job, push_outcome, status};
+use crate::report::Report;
+use crate::transfer::{ReadEnd, read_whole, write_whole};
+use crate::words::{Command, WordsEnd, read_words};
+use dpx_base::{Sink, Source};
+use dpx_dpcd::LoadPort;
+use dpx_files::{Job, Need, read_job};
+use dpx_link::train;
+use std::alloc::Global;
+
+/// Does what the words of the command line ask for: `words` are those without the program's name. The job comes from
+/// `src`, its sink is loaded into `aux`, the report goes to `out`. The result is the exit status:
+///
+/// * 0: trained; 4: not trained, capabilities refused, or an AUX transaction failed
+/// * 2: the words have no reading; 3: the job has none
+/// * 7: a read failed; 8: a write failed; 10: want of memory
+pub fn replay<S: Source, P: LoadPort, O: Sink>(
+    alloc: Global,
+    words: &[String],
+    src: &mut S,
+    aux: &mut P,
+    out: &mut O,
+) -> u8
+    ensures statuses { IsStatus result }
+
+    // Usage, and a job that has no reading. A source that does not tell its bytes is bound by `only` alone.
+    ensures usage { Exactly 2 (command_of (map string_bytes words.now) ≡ None) result }
+    ensures usage_changes_only_out { result ≡ 2 → (src.new ≡ src.old) × (aux.new ≡ aux.old) }
+    ensures job_refused { IsSome (command_of (map string_bytes words.now)) → IfSome (S.left src.old) (λ bytes. Exactly 3 (IsNoJob bytes) result) }
+    ensures refused_keeps_sink { result ≡ 3 → aux.new ≡ aux.old }
+
+    // Training: what 0 and 4 say; the sink is as it was or was trained, whatever the status; it was wherever it could be.
+    ensures ended { SaysEnded result → Ended (S.left src.old) (S.left src.new) (P.state aux.new) (O.taken out.old) (O.taken out.new) result }
+    ensures sink_kept_or_trained { (aux.new ≡ aux.old) ⊎ Loaded (S.left src.old) (S.left src.new) (P.state aux.new) }
+    ensures trained_wherever_asked { IsSome (command_of (map string_bytes words.now)) → IsSomeAnd (S.left src.old) IsJob → IsClean result
+        → Ended (S.left src.old) (S.left src.new) (P.state aux.new) (O.taken out.old) (O.taken out.new) result }
+
+    // Faults come only where their object counted one.
+    ensures read_fault { result ≡ 7 → Rose (S.faults src.old) (S.faults src.new) }
+    ensures write_fault { result ≡ 8 → Rose (O.faults out.old) (O.faults out.new) }
+
+    // All of it: the outcome with its cause, and what was printed, also where a write failed or memory was short.
+    ensures does { Does (map string_bytes words.now) (S.left src.old) (S.left src.new) (Rose (S.faults src.old) (S.faults src.new))
+        (src.new ≡ src.old) (aux.new ≡ aux.old) (P.state aux.new) (Rose (O.faults out.old) (O.faults out.new)) (O.taken out.old) (O.taken out.new) result }
+{
+    let outcome = run(alloc, words, src, aux);
+    report(alloc, out, &outcome)
+}
+
+/// Does what the words ask for.
+fn run<S: Source, P: LoadPort>(
+    alloc: Global,
+    words: &[String],
+    src: &mut S,
+    aux: &mut P,
+) -> Outcome
+    ensures { Caused (map string_bytes words.now) (S.left src.old) (S.left src.new)
+        (Rose (S.faults src.old) (S.faults src.new)) (src.new ≡ src.old) (aux.new ≡ aux.old) (P.state aux.new) result }
+{
+    match read_words(alloc, words) {
+        Ok(Command::Train { .. }) => train_command(alloc, src, aux),
+        Err(WordsEnd::Usage) => Outcome::Usage,
+        Err(WordsEnd::Memory) => Outcome::NoMemory,
+    }
+}
+
+fn train_command<S: Source, P: LoadPort>(alloc: Global, src: &mut S, aux: &mut P) -> Outcome
+    ensures { Trains (S.left src.old) (S.left src.new) (Rose (S.faults src.old) (S.faults src.new)) (aux.new ≡ aux.old) (P.state aux.new) result }
+{
+    match job_in(alloc, src) {
+        Ok(Job::Train { link, sink }) => {
+            aux.load(sink);
+            Outcome::Ended(train(aux, link))
+        }
+        Err(outcome) => outcome,
+    }
+}
+
+/// Reads the job from the source.
+fn job_in<S: Source>(alloc: Global, src: &mut S) -> Result<Job, Outcome>
+    ensures { ReadsJob (S.left src.old) (S.left src.new) (Rose (S.faults src.old) (S.faults src.new)) result }
+{
+    let bytes = match read_whole(alloc, src) {
+        Ok(bytes) => bytes,
+        Err(ReadEnd::Fault) => return Err(Outcome::ReadFault),
+        Err(ReadEnd::Memory) => return Err(Outcome::NoMemory),
+    };
+    match read_job(alloc, bytes.as_slice(), Need::Train) {
+        Ok(job) => Ok(job),
+        Err(why) => Err(no_job(why)),
+    }
+}
+
+/// Prints what is said of an outcome, and gives its status.
+fn report<O: Sink>(alloc: Global, out: &mut O, outcome: &Outcome) -> u8
+    ensures { Reported outcome.now (Rose (O.faults out.old) (O.faults out.new)) (O.taken out.old) (O.taken out.new) result }
+{
+    let mut text = Report::new(alloc);
+    match push_outcome(&mut text, outcome) {
+        Ok(()) => tell(out, text.as_bytes(), status(outcome)),
+        Err(_) => tell(out, MEMORY.as_bytes(), 10),
+    }
+}
+
+fn tell<O: Sink>(out: &mut O, text: &[u8], status: u8) -> u8
+    ensures { Tells text.now status (Rose (O.faults out.old) (O.faults out.new)) (O.taken out.old) (O.taken out.new) result }
+{
+    match write_whole(out, text) {
+        Ok(()) => status,
+        Err(_) => 8,
+    }
+}

@@ -1,0 +1,55 @@
+ghost use Rattle.std.specs.Prelude.{◌≡◌, IfOk, OnOk, OnErr};
+ghost use Rattle.std.specs.Io.KnownBytes.{Appends};
+ghost use Rattle.dpx_base.specs.Faults.{Rose, HasCause};
+ghost use Rattle.dpx_cli.specs.declared.transfer.ReadEnd.{ReadEnd};
+ghost use Rattle.dpx_cli.specs.Transfer.{ReadsWhole, AppendsFront};
+
+use dpx_base::{Failed, Sink, Source};
+use std::alloc::Global;
+
+/// Why a job was not read.
+#[derive(Clone, Copy, Debug, PartialEq, Eq)]
+pub(crate) enum ReadEnd {
+    Fault,
+    Memory,
+}
+
+/// One byte more than a job has at most.
+const READ_AT_MOST: usize = 1_048_577;
+
+const PIECE: usize = 4096;
+
+/// Reads to the end, or so far that the bytes are too long for a job; then no further read is made.
+pub(crate) fn read_whole<S: Source>(alloc: Global, src: &mut S) -> Result<Vec<u8>, ReadEnd>
+    ensures whole { IfOk result (λ bytes. ReadsWhole (S.left src.old) (S.left src.new) bytes.items) }
+    ensures fault { result ≡ Err ReadEnd.Fault → Rose (S.faults src.old) (S.faults src.new) }
+{
+    let mut bytes = Vec::new(alloc);
+    let mut piece = [0; PIECE];
+    while bytes.len() < READ_AT_MOST {
+        let room = PIECE.min(READ_AT_MOST - bytes.len());
+        let Ok(count) = src.read(&mut piece[..room]) else {
+            return Err(ReadEnd::Fault);
+        };
+        if count == 0 {
+            break;
+        }
+        if bytes.extend_from_slice(&piece[..count]).is_err() {
+            return Err(ReadEnd::Memory);
+        }
+    }
+    Ok(bytes)
+}
+
+/// Writes all of the bytes, or as many as are taken before a write fails.
+pub(crate) fn write_whole<O: Sink>(out: &mut O, bytes: &[u8]) -> Result<(), Failed>
+    ensures whole { OnOk result (Appends (O.taken out.old) (O.taken out.new) bytes.now) }
+    ensures front { OnErr result (AppendsFront (O.taken out.old) (O.taken out.new) bytes.now) }
+    ensures cause { HasCause (O.faults out.old) (O.faults out.new) result }
+{
+    let mut start = 0;
+    while start < bytes.len() {
+        start += out.write(&bytes[start..])?;
+    }
+    Ok(())
+}

@@ -1,0 +1,61 @@
+-- The reading of a job: this project's own. The fields are tried in the order in which they stand here.
+use Rattle.std.specs.Prelude.{ℕ, nat_lt, if◌then◌else◌, List, length, codes, Option, Some, None, Result, Ok, Err}
+use Rattle.serde_json.specs.Data.{Data}
+use Rattle.serde_json.specs.Find.{get}
+use Rattle.dpx_base.specs.declared.link.Link.{Link}
+use Rattle.dpx_dpcd.specs.declared.plan.SinkPlan.{SinkPlan}
+use Rattle.dpx_dpcd.specs.declared.plan.SinkPlan.TheVariants as plan
+use Rattle.dpx_files.specs.declared.job.Job.{Job}
+use Rattle.dpx_files.specs.declared.job.Job.TheVariants as job
+use Rattle.dpx_files.specs.declared.job.Need.{Need}
+use Rattle.dpx_files.specs.declared.job.Need.TheVariants.{Train}
+use Rattle.dpx_files.specs.declared.refusal.Field.{Field}
+use Rattle.dpx_files.specs.declared.refusal.Field.TheVariants as field
+use Rattle.dpx_files.specs.declared.refusal.JobBad.{JobBad}
+use Rattle.dpx_files.specs.declared.refusal.JobBad.TheVariants.{TooLong, NotJson}
+use Rattle.dpx_files.specs.Refusal.{◌>>=◌, refused}
+use Rattle.dpx_files.specs.Members.{json_of, object_in}
+use Rattle.dpx_files.specs.LinkFields.{link_of}
+use Rattle.dpx_files.specs.Script.{script_of}
+use Rattle.dpx_files.specs.Model.{model_of}
+
+-- how many bytes a job has at most
+abbrev pub longest_job : ℕ
+longest_job = 1048576
+
+-- a script alone, or a model alone; a member that is null is there
+abbrev pub plan_of : Option Data → Option Data → Result SinkPlan Field
+plan_of (Some script) None = do
+  answers ← script_of script
+  Ok (plan.Script answers)
+plan_of None (Some model) = model_of model
+plan_of None None = Err field.Sink
+plan_of (Some script) (Some model) = Err field.Sink
+
+-- `sink`: an object with exactly one of `script` and `model`
+unfoldable pub sink_of : Data → Result SinkPlan Field
+sink_of root = do
+  sink ← object_in field.Sink (get (codes "sink") root)
+  plan_of (get (codes "script") sink) (get (codes "model") sink)
+
+-- what a job says, of that which is needed
+unfoldable pub job_of : Need → Data → Result Job Field
+job_of Train value = do
+  root ← object_in field.Root (Some value)
+  link ← link_of root
+  sink ← sink_of root
+  Ok (job.Train link sink)
+
+-- the link that a job asks for
+abbrev pub link_asked : Job → Link
+link_asked (job.Train link sink) = link
+
+-- what the value of a text says, if it is one
+abbrev pub job_in : Need → Option Data → Result Job JobBad
+job_in need None = Err NotJson
+job_in need (Some value) = refused (job_of need value)
+
+-- the job that the bytes are, or the first refusal
+unfoldable pub reading : Need → List ℕ → Result Job JobBad
+reading need bytes =
+    if nat_lt longest_job (length bytes) then Err TooLong else job_in need (json_of bytes)

@@ -1,0 +1,38 @@
+-- Members of a JSON value, as a job's fields want them: this project's own, over the words of serde_json.
+use Rattle.std.specs.Prelude.{ℕ, is_some, if◌then◌else◌, List, [], ◌∷◌, Option, Some, None, option_map, option_and_then, Result, Ok}
+use Rattle.std.specs.Str.{is_utf8}
+use Rattle.serde_json.specs.Data.{Data, Items, no_items, item}
+use Rattle.serde_json.specs.Find.{as_number, as_u64, as_array, as_object}
+use Rattle.serde_json.specs.Read.{read}
+use Rattle.dpx_files.specs.declared.refusal.Field.{Field}
+use Rattle.dpx_files.specs.Refusal.{wanted}
+
+-- the value that the bytes are, if they are a JSON text
+unfoldable pub json_of : List ℕ → Option Data
+json_of bytes = if is_utf8 bytes then read bytes else None
+
+-- a whole number that is not negative, written with no fraction and no exponent
+abbrev pub whole_number : Data → Option ℕ
+whole_number value = option_and_then as_u64 (as_number value)
+
+-- the values of an array as a list
+abbrev pub list_of : Items → List Data
+list_of no_items = []
+list_of (item value values) = value ∷ list_of values
+
+-- the values in an array
+abbrev pub elements : Data → Option (List Data)
+elements value = option_map list_of (as_array value)
+
+-- the value itself, where it is an object
+abbrev pub if_object : Data → Option Data
+if_object value = if is_some (as_object value) then Some value else None
+
+-- a member that is an object
+abbrev pub object_in : Field → Option Data → Result Data Field
+object_in field member = wanted field (option_and_then if_object member)
+
+-- a member that may be absent, and then has this value; where it is there, as null too, it has to be right
+abbrev pub or_default : {A : Type 0} → Field → (Data → Option A) → A → Option Data → Result A Field
+or_default field reads value None = Ok value
+or_default field reads value (Some member) = wanted field (reads member)

@@ -1,0 +1,74 @@
+ghost use Rattle.std.specs.Prelude.{◌≡◌, true, IfOk};
+ghost use Rattle.serde_json.specs.View.{view};
+ghost use Rattle.dpx_base.specs.Lanes.{lanes_from};
+ghost use Rattle.dpx_files.specs.LinkFields.{link_of, rate_of, lanes_of, rate_name, rate_named};
+
+use crate::Field;
+use crate::members::object_in;
+use dpx_base::{Lanes, Link, Rate};
+use serde_json::Value;
+
+/// The link that the root of a job asks for.
+#[tactic(auto, unfolding(crate::specs::LinkFields::link_of))]
+pub(crate) fn read_link(root: &Value) -> Result<Link, Field>
+    ensures value { result ≡ link_of (view root.now) }
+    ensures enhanced { IfOk result (λ link. link.enhanced ≡ true) }
+{
+    let link = object_in(Field::Link, root.get("link"))?;
+    Ok(Link {
+        rate: read_rate(link)?,
+        lanes: read_lanes(link)?,
+        enhanced: true,
+    })
+}
+
+fn read_rate(link: &Value) -> Result<Rate, Field>
+    ensures { result ≡ rate_of (view link.now) }
+{
+    link.get("rate")
+        .and_then(Value::as_str)
+        .and_then(rate_named)
+        .ok_or(Field::Rate)
+}
+
+fn read_lanes(link: &Value) -> Result<Lanes, Field>
+    ensures { result ≡ lanes_of (view link.now) }
+{
+    link.get("lanes")
+        .and_then(Value::as_u64)
+        .and_then(lanes_from)
+        .ok_or(Field::Lanes)
+}
+
+fn rate_named(name: &str) -> Option<Rate>
+    ensures { result ≡ rate_named name.now }
+{
+    match name {
+        "RBR" => Some(Rate::Rbr),
+        "HBR" => Some(Rate::Hbr),
+        "HBR2" => Some(Rate::Hbr2),
+        "HBR3" => Some(Rate::Hbr3),
+        _ => None,
+    }
+}
+
+fn lanes_from(number: u64) -> Option<Lanes>
+    ensures { result ≡ lanes_from number }
+{
+    let Ok(count) = u8::try_from(number) else {
+        return None;
+    };
+    Lanes::from_count(count)
+}
+
+/// The name that a rate has in a job.
+pub(crate) fn rate_name(rate: Rate) -> &'static str
+    ensures { result.now ≡ rate_name rate }
+{
+    match rate {
+        Rate::Rbr => "RBR",
+        Rate::Hbr => "HBR",
+        Rate::Hbr2 => "HBR2",
+        Rate::Hbr3 => "HBR3",
+    }
+}

@@ -1,0 +1,45 @@
+ghost use Rattle.std.specs.Prelude.{◌≡◌, ◌⊎◌, Some, None, map, option_map, MatchResult};
+ghost use Rattle.serde_json.specs.View.{view};
+ghost use Rattle.dpx_files.specs.Members.{json_of, elements, object_in};
+ghost use Rattle.dpx_files.specs.declared.refusal.JobBad.TheVariants.{NotJson, Memory};
+
+use crate::{Field, JobBad};
+use serde_json::Value;
+use std::alloc::Global;
+
+/// The value that the bytes are.
+pub(crate) fn read_value(alloc: Global, bytes: &[u8]) -> Result<Value, JobBad>
+    ensures { MatchResult result (λ value. json_of bytes.now ≡ Some (view value))
+        (λ bad. (bad ≡ Memory) ⊎ ((bad ≡ NotJson) × (json_of bytes.now ≡ None))) }
+{
+    match Value::from_slice(alloc, bytes) {
+        Ok(value) => Ok(value),
+        Err(error) => Err(if error.is_memory() {
+            JobBad::Memory
+        } else {
+            JobBad::NotJson
+        }),
+    }
+}
+
+/// The values in an array.
+pub(crate) fn elements(value: &Value) -> Option<&[Value]>
+    ensures { option_map (λ values. map view values.now) result ≡ elements (view value.now) }
+{
+    match value.as_array() {
+        Some(values) => Some(values.as_slice()),
+        None => None,
+    }
+}
+
+/// A member that has to be there and be an object.
+pub(crate) fn object_in(field: Field, member: Option<&Value>) -> Result<&Value, Field>
+    ensures { MatchResult result
+        (λ object. object_in field (option_map (λ m. view m.now) member.entry) ≡ Ok (view object.now))
+        (λ wrong. object_in field (option_map (λ m. view m.now) member.entry) ≡ Err wrong) }
+{
+    match member {
+        Some(value) if value.is_object() => Ok(value),
+        _ => Err(field),
+    }
+}

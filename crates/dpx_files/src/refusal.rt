@@ -1,0 +1,68 @@
+ghost use Rattle.std.specs.Prelude.{◌≡◌};
+ghost use Rattle.dpx_files.specs.Refusal.{name_of};
+
+use thiserror::Error;
+
+/// A field of a job.
+#[derive(Clone, Copy, Debug, PartialEq, Eq)]
+pub enum Field {
+    /// The text itself.
+    Root,
+    Link,
+    Rate,
+    Lanes,
+    Sink,
+    Script,
+    Model,
+    Caps,
+    Extended,
+    Defers,
+    Channel,
+}
+
+impl Field {
+    /// The name of the field's member, as reports print it; `job` for the text itself.
+    pub fn name(self) -> &'static str
+        ensures { result.now ≡ name_of self }
+    {
+        match self {
+            Field::Root => "job",
+            Field::Link => "link",
+            Field::Rate => "rate",
+            Field::Lanes => "lanes",
+            Field::Sink => "sink",
+            Field::Script => "script",
+            Field::Model => "model",
+            Field::Caps => "caps",
+            Field::Extended => "extended",
+            Field::Defers => "defers",
+            Field::Channel => "channel",
+        }
+    }
+}
+
+/// Why a job has no reading.
+#[derive(Debug, Drop, Error)]
+pub enum JobBad {
+    /// More than 1,048,576 bytes.
+    #[error("job too long")]
+    TooLong,
+    #[error("job not json")]
+    NotJson,
+    /// The first field that is missing, of the wrong kind or out of its range.
+    #[error("job wrong {}", .0.name())]
+    Wrong(Field),
+    #[error("memory")]
+    Memory,
+}
+
+impl From<Field> for JobBad {
+    ghost use Rattle.std.specs.Prelude.{◌≡◌};
+    ghost use Rattle.dpx_files.specs.declared.refusal.JobBad.TheVariants.{Wrong};
+
+    ghost from_gives = { λ field bad. bad ≡ Wrong field };
+
+    fn from(field: Field) -> JobBad {
+        JobBad::Wrong(field)
+    }
+}
