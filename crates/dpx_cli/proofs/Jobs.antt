@@ -40,8 +40,11 @@ ended before now bytes why false l r e = inr (r.at_end (ltb-false longest_job (l
 refused_as : (before now : Option (List ℕ)) (bytes : List ℕ) (why : JobBad) → ReadsWhole before now bytes → (why ≡ Memory → ⊥) → reading Train bytes ≡ Err why → RefusedAs before now why
 refused_as before now bytes why r named e = record {
   reads = says now bytes r e;
-  read_whole = ended before now bytes why _ refl r e;
   named = named;
+  front = bytes;
+  consumed = r.consumed;
+  bounded = r.bounded;
+  read_whole = ended before now bytes why _ refl r e;
 }
 
 -- a job that is not read is refused, or there is no memory

@@ -1,6 +1,6 @@
 -- What the top call does, by its outcome: this project's own.
-use Rattle.std.specs.Prelude.{◌≡◌, ◌≢◌, ◌⊎◌, ℕ, ◌≤◌, List, length, Option, Some, None, IsSome, IfSome, IsOk, IsErr, Result, Ok, Err, MatchResult, ⊤}
-use Rattle.std.specs.Io.KnownBytes.{Appends, IsAtEnd}
+use Rattle.std.specs.Prelude.{◌≡◌, ◌≢◌, ◌⊎◌, ℕ, ◌+◌, ◌≤◌, List, length, Option, Some, None, IsSome, IfSome, IsOk, IsErr, Result, Ok, Err, MatchResult, ⊤}
+use Rattle.std.specs.Io.KnownBytes.{Appends, Consumes, IsAtEnd}
 use Rattle.dpx_base.specs.declared.aux_port.Entry.{Entry}
 use Rattle.dpx_base.specs.declared.link.Link.{Link}
 use Rattle.dpx_base.specs.Port.{PortState, asks}
@@ -10,13 +10,13 @@ use Rattle.dpx_files.specs.declared.job.Job.TheVariants as job
 use Rattle.dpx_files.specs.declared.job.Need.TheVariants as need
 use Rattle.dpx_files.specs.declared.refusal.JobBad.{JobBad}
 use Rattle.dpx_files.specs.declared.refusal.JobBad.TheVariants.{TooLong, NotJson, Wrong, Memory}
-use Rattle.dpx_files.specs.Job.{reading}
+use Rattle.dpx_files.specs.Job.{reading, longest_job}
 use Rattle.dpx_link.specs.declared.train_end.TrainEnd.{TrainEnd}
 use Rattle.dpx_link.specs.declared.train_end.TrainEnd.TheVariants.{Trained, NotTrained, CapsRefused, AuxEnded}
 use Rattle.dpx_link.specs.Training.{Training, IsGood}
 use Rattle.dpx_cli.specs.declared.outcome.Outcome.{Outcome}
 use Rattle.dpx_cli.specs.declared.outcome.Outcome.TheVariants as outcome
-use Rattle.dpx_cli.specs.Outcome.{memory_line, report_of, status_of, train_status}
+use Rattle.dpx_cli.specs.Outcome.{memory_line, job_report, report_of, status_of, train_status}
 use Rattle.dpx_cli.specs.Lines.{train_report}
 use Rattle.dpx_cli.specs.Transfer.{AppendsFront}
 use Rattle.dpx_cli.specs.Words.{command_of}
@@ -36,11 +36,14 @@ pub record TrainedAs (left_before left_now : Option (List ℕ)) (sink : PortStat
   pub few : sink.asked ≤ 3104
   pub good : IsGood end
 
--- A job is refused for what its bytes are; but for a job that is too long, they were read to the end.
+-- A job is refused for what its bytes are. It was read to its end; or it is too long, and no more was read than shows it.
 pub record RefusedAs (left_before left_now : Option (List ℕ)) (why : JobBad) : Type 0 where
   pub reads : IfSome left_before (λ bytes. reading need.Train bytes ≡ Err why)
-  pub read_whole : (why ≡ TooLong) ⊎ IsAtEnd left_now
   pub named : why ≢ Memory
+  pub front : List ℕ
+  pub consumed : Consumes left_before left_now front
+  pub bounded : length front ≤ longest_job + 1
+  pub read_whole : (why ≡ TooLong) ⊎ IsAtEnd left_now
 
 -- the job that a source has, or why there is none
 pub record HasJob (left_before left_now : Option (List ℕ)) (asked : Job) : Type 0 where
@@ -118,6 +121,12 @@ pub record Ended (left_before left_now : Option (List ℕ)) (sink : PortState Si
   pub trained : TrainedAs left_before left_now sink end
   pub status : result ≡ train_status end
   pub printed : Appends taken_before taken_now (train_report end)
+
+-- a job was refused, and that was printed
+pub record Refused (left_before left_now taken_before taken_now : Option (List ℕ)) : Type 0 where
+  pub why : JobBad
+  pub refused : RefusedAs left_before left_now why
+  pub printed : Appends taken_before taken_now (job_report why)
 
 -- the job was loaded and a training ended, whatever was printed of it
 pub record Loaded (left_before left_now : Option (List ℕ)) (sink : PortState SinkPlan) : Type 0 where

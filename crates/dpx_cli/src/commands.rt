@@ -1,7 +1,9 @@
 ghost use Rattle.std.specs.Prelude.{◌≡◌, ◌⊎◌, None, IsSome, IfSome, IsSomeAnd, map, string_bytes};
+ghost use Rattle.std.specs.Io.KnownBytes.{Appends};
 ghost use Rattle.dpx_base.specs.Faults.{Rose};
+ghost use Rattle.dpx_cli.specs.Outcome.{usage_line};
 ghost use Rattle.dpx_cli.specs.Words.{command_of};
-ghost use Rattle.dpx_cli.specs.Replay.{Caused, Trains, ReadsJob, Reported, Tells, Does, IsClean, Exactly, Ended, Loaded, SaysEnded, IsStatus, IsJob, IsNoJob};
+ghost use Rattle.dpx_cli.specs.Replay.{Caused, Trains, ReadsJob, Reported, Tells, Does, IsClean, Exactly, Ended, Refused, Loaded, SaysEnded, IsStatus, IsJob, IsNoJob};
 
 use crate::outcome::{MEMORY, Outcome, no_job, push_outcome, status};
 use crate::report::Report;
@@ -28,10 +30,12 @@ pub fn replay<S: Source, P: LoadPort, O: Sink>(
 ) -> u8
     ensures statuses { IsStatus result }
 
-    // Usage, and a job that has no reading. A source that does not tell its bytes is bound by `only` alone.
+    // Words and jobs that have no reading.
     ensures usage { Exactly 2 (command_of (map string_bytes words.now) ≡ None) result }
     ensures usage_changes_only_out { result ≡ 2 → (src.new ≡ src.old) × (aux.new ≡ aux.old) }
+    ensures usage_is_printed { result ≡ 2 → Appends (O.taken out.old) (O.taken out.new) usage_line }
     ensures job_refused { IsSome (command_of (map string_bytes words.now)) → IfSome (S.left src.old) (λ bytes. Exactly 3 (IsNoJob bytes) result) }
+    ensures refused_says_why { result ≡ 3 → Refused (S.left src.old) (S.left src.new) (O.taken out.old) (O.taken out.new) }
     ensures refused_keeps_sink { result ≡ 3 → aux.new ≡ aux.old }
 
     // Training: what 0 and 4 say; the sink is as it was or was trained, whatever the status; it was wherever it could be.
@@ -53,12 +57,7 @@ pub fn replay<S: Source, P: LoadPort, O: Sink>(
 }
 
 /// Does what the words ask for.
-fn run<S: Source, P: LoadPort>(
-    alloc: Global,
-    words: &[String],
-    src: &mut S,
-    aux: &mut P,
-) -> Outcome
+fn run<S: Source, P: LoadPort>(alloc: Global, words: &[String], src: &mut S, aux: &mut P) -> Outcome
     ensures { Caused (map string_bytes words.now) (S.left src.old) (S.left src.new)
         (Rose (S.faults src.old) (S.faults src.new)) (src.new ≡ src.old) (aux.new ≡ aux.old) (P.state aux.new) result }
 {

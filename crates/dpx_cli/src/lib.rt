@@ -7,7 +7,6 @@
 mod commands;
 mod lines;
 mod outcome;
-
 mod report;
 mod transfer;
 mod words;

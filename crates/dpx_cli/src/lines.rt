@@ -46,11 +46,7 @@ fn push_trained(
 }
 
 #[tactic(auto, unfolding(crate::specs::Lines::not_trained_text))]
-fn push_not_trained(
-    report: &mut Report,
-    last: &Status6,
-    requests: u32,
-) -> Result<(), AllocError>
+fn push_not_trained(report: &mut Report, last: &Status6, requests: u32) -> Result<(), AllocError>
     ensures { OnOk result (report.new ≡ report.old ++ not_trained_text last.now.bytes requests) }
 {
     report.push("not trained")?;

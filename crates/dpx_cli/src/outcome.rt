@@ -21,7 +21,8 @@ pub(crate) enum Outcome {
     Ended(TrainEnd),
 }
 
-pub(crate) const USAGE: &str = "usage: dp_replay train JOB | send JOB PIXELS CAPTURE [one|lanes] | run JOB PIXELS CAPTURE [one|lanes] | recv CAPTURE PIXELS [one|lanes] | gen SEED [one|lanes]\n";
+pub(crate) const USAGE: &str =
+    "usage: dp_replay train JOB | send JOB PIXELS CAPTURE [one|lanes] | run JOB PIXELS CAPTURE [one|lanes] | recv CAPTURE PIXELS [one|lanes] | gen SEED [one|lanes]\n";
 
 pub(crate) const MEMORY: &str = "memory\n";
 
