@@ -47,7 +47,7 @@ record Whole (outcome : Outcome) (taken_before taken_now : Option (List ℕ)) (r
   status : result ≡ status_of outcome
   printed : Appends taken_before taken_now (report_of outcome)
 
-whole : {outcome : Outcome} {WriteFailed : Type 0} {taken_before taken_now : Option (List ℕ)} {result : ℕ} → Reported outcome WriteFailed taken_before taken_now result → (result ≡ 8 → ⊥) → (result ≡ 10 → ⊥) → Whole outcome taken_before taken_now result
+whole : {outcome : Outcome} {WriteFailed : Type 0} {taken_before taken_now : Option (List ℕ)} {result : ℕ} → Reported WriteFailed taken_before taken_now result outcome → (result ≡ 8 → ⊥) → (result ≡ 10 → ⊥) → Whole outcome taken_before taken_now result
 whole (inl (inl wrote)) n m = record { status = wrote.answered; printed = wrote.taken }
 whole (inl (inr broke)) n m = absurd (n broke.answered)
 whole (inr (inl wrote)) n m = absurd (m wrote.answered)

@@ -1,4 +1,6 @@
--- What the top call does, by its outcome: this project's own.
+-- What the top call does, by its outcome: this project's own. Throughout, `left_before` and `left_now` are the bytes that
+-- the source had left before the call and has after it, where it tells them; `taken_before` and `taken_now` those that the
+-- sink of the report took; `sink` is what the AUX port tells after the call.
 use Rattle.std.specs.Prelude.{◌≡◌, ◌≢◌, ◌⊎◌, ℕ, ◌+◌, ◌≤◌, List, length, Option, Some, None, IsSome, IfSome, IsOk, IsErr, Result, Ok, Err, MatchResult, ⊤}
 use Rattle.std.specs.Io.KnownBytes.{Appends, Consumes, IsAtEnd}
 use Rattle.dpx_base.specs.declared.aux_port.Entry.{Entry}
@@ -21,9 +23,9 @@ use Rattle.dpx_cli.specs.Lines.{train_report}
 use Rattle.dpx_cli.specs.Transfer.{AppendsFront}
 use Rattle.dpx_cli.specs.Words.{command_of}
 
--- The job's sink was loaded and its link trained, and that ended so. `left` is what the source told before the call and
--- after it, `sink` what the port tells after it.
-pub record TrainedAs (left_before left_now : Option (List ℕ)) (sink : PortState SinkPlan) (end : TrainEnd) : Type 0 where
+-- The job's sink was loaded and its link trained, and that ended so.
+pub record TrainedAs (left_before left_now : Option (List ℕ)) (sink : PortState SinkPlan)
+    (end : TrainEnd) : Type 0 where
   pub link : Link
   pub plan : SinkPlan
   pub entries : List Entry
@@ -62,21 +64,23 @@ ReadsJob left_before left_now ReadFailed result =
     MatchResult result (HasJob left_before left_now) (HasNoJob left_before left_now ReadFailed)
 
 -- what training comes to
-abbrev pub Trains : (left_before left_now : Option (List ℕ)) (ReadFailed SinkKept : Type 0) (sink : PortState SinkPlan) → Outcome → Type 0
-Trains left_before left_now ReadFailed SinkKept sink outcome.Usage = ⊥
-Trains left_before left_now ReadFailed SinkKept sink (outcome.NoJob why) = RefusedAs left_before left_now why × SinkKept
-Trains left_before left_now ReadFailed SinkKept sink outcome.ReadFault = ReadFailed × SinkKept
-Trains left_before left_now ReadFailed SinkKept sink outcome.NoMemory = SinkKept
-Trains left_before left_now ReadFailed SinkKept sink (outcome.Ended end) = TrainedAs left_before left_now sink end
+module _ (left_before left_now : Option (List ℕ)) (ReadFailed SinkKept : Type 0) (sink : PortState SinkPlan) where
+  abbrev pub Trains : Outcome → Type 0
+  Trains outcome.Usage = ⊥
+  Trains (outcome.NoJob why) = RefusedAs left_before left_now why × SinkKept
+  Trains outcome.ReadFault = ReadFailed × SinkKept
+  Trains outcome.NoMemory = SinkKept
+  Trains (outcome.Ended end) = TrainedAs left_before left_now sink end
 
 -- Each outcome has its cause, and says what became of the source and of the sink: `ReadFailed`, `SourceKept` and
 -- `SinkKept` are the facts of a call that a read failed, that the source is as it was, and that the sink is.
-abbrev pub Caused : (words : List (List ℕ)) (left_before left_now : Option (List ℕ)) (ReadFailed SourceKept SinkKept : Type 0) (sink : PortState SinkPlan) → Outcome → Type 0
-Caused words left_before left_now ReadFailed SourceKept SinkKept sink outcome.Usage = (command_of words ≡ None) × SourceKept × SinkKept
-Caused words left_before left_now ReadFailed SourceKept SinkKept sink (outcome.NoJob why) = IsSome (command_of words) × RefusedAs left_before left_now why × SinkKept
-Caused words left_before left_now ReadFailed SourceKept SinkKept sink outcome.ReadFault = IsSome (command_of words) × ReadFailed × SinkKept
-Caused words left_before left_now ReadFailed SourceKept SinkKept sink outcome.NoMemory = SinkKept
-Caused words left_before left_now ReadFailed SourceKept SinkKept sink (outcome.Ended end) = IsSome (command_of words) × TrainedAs left_before left_now sink end
+module _ (words : List (List ℕ)) (left_before left_now : Option (List ℕ)) (ReadFailed SourceKept SinkKept : Type 0) (sink : PortState SinkPlan) where
+  abbrev pub Caused : Outcome → Type 0
+  Caused outcome.Usage = (command_of words ≡ None) × SourceKept × SinkKept
+  Caused (outcome.NoJob why) = IsSome (command_of words) × RefusedAs left_before left_now why × SinkKept
+  Caused outcome.ReadFault = IsSome (command_of words) × ReadFailed × SinkKept
+  Caused outcome.NoMemory = SinkKept
+  Caused (outcome.Ended end) = IsSome (command_of words) × TrainedAs left_before left_now sink end
 
 -- the text was written whole, and this is the status
 pub record Wrote (text : List ℕ) (status : ℕ) (taken_before taken_now : Option (List ℕ)) (result : ℕ) : Type 0 where
@@ -89,20 +93,21 @@ pub record Broke (text : List ℕ) (WriteFailed : Type 0) (taken_before taken_no
   pub failed : WriteFailed
   pub taken : AppendsFront taken_before taken_now text
 
-abbrev pub Tells : (text : List ℕ) (status : ℕ) (WriteFailed : Type 0) (taken_before taken_now : Option (List ℕ)) (result : ℕ) → Type 0
-Tells text status WriteFailed taken_before taken_now result =
-    Wrote text status taken_before taken_now result ⊎ Broke text WriteFailed taken_before taken_now result
+module _ (WriteFailed : Type 0) (taken_before taken_now : Option (List ℕ)) (result : ℕ) where
+  -- one or the other
+  abbrev pub Tells : (text : List ℕ) (status : ℕ) → Type 0
+  Tells text status = Wrote text status taken_before taken_now result ⊎ Broke text WriteFailed taken_before taken_now result
 
--- an outcome is reported; or there was no memory for its report, and that is told
-abbrev pub Reported : Outcome → (WriteFailed : Type 0) (taken_before taken_now : Option (List ℕ)) (result : ℕ) → Type 0
-Reported outcome WriteFailed taken_before taken_now result =
-    Tells (report_of outcome) (status_of outcome) WriteFailed taken_before taken_now result ⊎ Tells memory_line 10 WriteFailed taken_before taken_now result
+  -- an outcome is reported; or there was no memory for its report, and that is told
+  abbrev pub Reported : Outcome → Type 0
+  Reported outcome = Tells (report_of outcome) (status_of outcome) ⊎ Tells memory_line 10
 
 -- What a call does: it comes to an outcome, which has its cause and is reported.
-pub record Does (words : List (List ℕ)) (left_before left_now : Option (List ℕ)) (ReadFailed SourceKept SinkKept : Type 0) (sink : PortState SinkPlan) (WriteFailed : Type 0) (taken_before taken_now : Option (List ℕ)) (result : ℕ) : Type 0 where
+pub record Does (words : List (List ℕ)) (left_before left_now : Option (List ℕ)) (ReadFailed SourceKept SinkKept : Type 0)
+    (sink : PortState SinkPlan) (WriteFailed : Type 0) (taken_before taken_now : Option (List ℕ)) (result : ℕ) : Type 0 where
   pub outcome : Outcome
   pub caused : Caused words left_before left_now ReadFailed SourceKept SinkKept sink outcome
-  pub reported : Reported outcome WriteFailed taken_before taken_now result
+  pub reported : Reported WriteFailed taken_before taken_now result outcome
 
 -- no fault was met, and there was memory
 pub record IsClean (result : ℕ) : Type 0 where
@@ -116,7 +121,8 @@ pub record Exactly (status : ℕ) (Cause : Type 0) (result : ℕ) : Type 0 where
   pub always : Cause → IsClean result → result ≡ status
 
 -- a training ended, with this status, and its report was printed
-pub record Ended (left_before left_now : Option (List ℕ)) (sink : PortState SinkPlan) (taken_before taken_now : Option (List ℕ)) (result : ℕ) : Type 0 where
+pub record Ended (left_before left_now : Option (List ℕ)) (sink : PortState SinkPlan)
+    (taken_before taken_now : Option (List ℕ)) (result : ℕ) : Type 0 where
   pub end : TrainEnd
   pub trained : TrainedAs left_before left_now sink end
   pub status : result ≡ train_status end

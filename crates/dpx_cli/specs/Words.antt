@@ -1,6 +1,8 @@
 -- The words of the command line: this project's own.
 use Rattle.std.specs.Prelude.{◌≡◌, ◌==◌, ◌&&◌, Bool, not, if◌then◌else◌, List, [], ◌∷◌, codes, slice_index, Option, Some, None, Result, MatchResult, ⊤, ℕ}
+use Rattle.std.specs.Prelude.{String, string_bytes, map}
 use Rattle.std.specs.Str.{bytes_eq}
+use Rattle.std.specs.declared.alloc.Global.{Global}
 use Rattle.dpx_cli.specs.declared.words.Command.{Command}
 use Rattle.dpx_cli.specs.declared.words.Command.TheVariants.{Train}
 use Rattle.dpx_cli.specs.declared.words.WordsEnd.{WordsEnd}
@@ -16,6 +18,10 @@ command_of [] = None
 command_of (word ∷ []) = None
 command_of (word ∷ job ∷ []) = if bytes_eq word (codes "train") && is_name job then Some (Train job) else None
 command_of (word ∷ job ∷ more ∷ words) = None
+
+-- the same of the words as the program holds them
+abbrev pub command_in : List (String Global) → Option Command
+command_in words = command_of (map string_bytes words)
 
 -- words are refused where they have no reading, or where there is no memory
 abbrev pub RefusedAs : Option Command → WordsEnd → Type 0

@@ -2,8 +2,9 @@ ghost use Rattle.std.specs.Prelude.{◌≡◌, ◌⊎◌, None, IsSome, IfSome, 
 ghost use Rattle.std.specs.Io.KnownBytes.{Appends};
 ghost use Rattle.dpx_base.specs.Faults.{Rose};
 ghost use Rattle.dpx_cli.specs.Outcome.{usage_line};
-ghost use Rattle.dpx_cli.specs.Words.{command_of};
-ghost use Rattle.dpx_cli.specs.Replay.{Caused, Trains, ReadsJob, Reported, Tells, Does, IsClean, Exactly, Ended, Refused, Loaded, SaysEnded, IsStatus, IsJob, IsNoJob};
+ghost use Rattle.dpx_cli.specs.Replay.{Caused, Trains, ReadsJob, Reported, Tells, Does, IsClean, Exactly};
+ghost use Rattle.dpx_cli.specs.Replay.{Ended, Refused, Loaded, SaysEnded, IsStatus, IsJob, IsNoJob};
+ghost use Rattle.dpx_cli.specs.Words.{command_in};
 
 use crate::outcome::{MEMORY, Outcome, no_job, push_outcome, status};
 use crate::report::Report;
@@ -31,17 +32,21 @@ pub fn replay<S: Source, P: LoadPort, O: Sink>(
     ensures statuses { IsStatus result }
 
     // Words and jobs that have no reading.
-    ensures usage { Exactly 2 (command_of (map string_bytes words.now) ≡ None) result }
+    ensures usage { Exactly 2 (command_in words.now ≡ None) result }
     ensures usage_changes_only_out { result ≡ 2 → (src.new ≡ src.old) × (aux.new ≡ aux.old) }
     ensures usage_is_printed { result ≡ 2 → Appends (O.taken out.old) (O.taken out.new) usage_line }
-    ensures job_refused { IsSome (command_of (map string_bytes words.now)) → IfSome (S.left src.old) (λ bytes. Exactly 3 (IsNoJob bytes) result) }
-    ensures refused_says_why { result ≡ 3 → Refused (S.left src.old) (S.left src.new) (O.taken out.old) (O.taken out.new) }
+    ensures job_refused { IsSome (command_in words.now)
+        → IfSome (S.left src.old) (λ bytes. Exactly 3 (IsNoJob bytes) result) }
+    ensures refused_says_why { result ≡ 3
+        → Refused (S.left src.old) (S.left src.new) (O.taken out.old) (O.taken out.new) }
     ensures refused_keeps_sink { result ≡ 3 → aux.new ≡ aux.old }
 
-    // Training: what 0 and 4 say; the sink is as it was or was trained, whatever the status; it was wherever it could be.
-    ensures ended { SaysEnded result → Ended (S.left src.old) (S.left src.new) (P.state aux.new) (O.taken out.old) (O.taken out.new) result }
-    ensures sink_kept_or_trained { (aux.new ≡ aux.old) ⊎ Loaded (S.left src.old) (S.left src.new) (P.state aux.new) }
-    ensures trained_wherever_asked { IsSome (command_of (map string_bytes words.now)) → IsSomeAnd (S.left src.old) IsJob → IsClean result
+    // Training: what 0 and 4 say. Whatever the status, the sink is as it was or was trained; it was wherever it could be.
+    ensures ended { SaysEnded result
+        → Ended (S.left src.old) (S.left src.new) (P.state aux.new) (O.taken out.old) (O.taken out.new) result }
+    ensures sink_kept_or_trained { (aux.new ≡ aux.old)
+        ⊎ Loaded (S.left src.old) (S.left src.new) (P.state aux.new) }
+    ensures trained_wherever_asked { IsSome (command_in words.now) → IsSomeAnd (S.left src.old) IsJob → IsClean result
         → Ended (S.left src.old) (S.left src.new) (P.state aux.new) (O.taken out.old) (O.taken out.new) result }
 
     // Faults come only where their object counted one.
@@ -49,8 +54,10 @@ pub fn replay<S: Source, P: LoadPort, O: Sink>(
     ensures write_fault { result ≡ 8 → Rose (O.faults out.old) (O.faults out.new) }
 
     // All of it: the outcome with its cause, and what was printed, also where a write failed or memory was short.
-    ensures does { Does (map string_bytes words.now) (S.left src.old) (S.left src.new) (Rose (S.faults src.old) (S.faults src.new))
-        (src.new ≡ src.old) (aux.new ≡ aux.old) (P.state aux.new) (Rose (O.faults out.old) (O.faults out.new)) (O.taken out.old) (O.taken out.new) result }
+    ensures does { Does (map string_bytes words.now)
+        (S.left src.old) (S.left src.new) (Rose (S.faults src.old) (S.faults src.new)) (src.new ≡ src.old)
+        (aux.new ≡ aux.old) (P.state aux.new)
+        (Rose (O.faults out.old) (O.faults out.new)) (O.taken out.old) (O.taken out.new) result }
 {
     let outcome = run(alloc, words, src, aux);
     report(alloc, out, &outcome)
@@ -58,8 +65,9 @@ pub fn replay<S: Source, P: LoadPort, O: Sink>(
 
 /// Does what the words ask for.
 fn run<S: Source, P: LoadPort>(alloc: Global, words: &[String], src: &mut S, aux: &mut P) -> Outcome
-    ensures { Caused (map string_bytes words.now) (S.left src.old) (S.left src.new)
-        (Rose (S.faults src.old) (S.faults src.new)) (src.new ≡ src.old) (aux.new ≡ aux.old) (P.state aux.new) result }
+    ensures { Caused (map string_bytes words.now)
+        (S.left src.old) (S.left src.new) (Rose (S.faults src.old) (S.faults src.new)) (src.new ≡ src.old)
+        (aux.new ≡ aux.old) (P.state aux.new) result }
 {
     match read_words(alloc, words) {
         Ok(Command::Train { .. }) => train_command(alloc, src, aux),
@@ -69,7 +77,8 @@ fn run<S: Source, P: LoadPort>(alloc: Global, words: &[String], src: &mut S, aux
 }
 
 fn train_command<S: Source, P: LoadPort>(alloc: Global, src: &mut S, aux: &mut P) -> Outcome
-    ensures { Trains (S.left src.old) (S.left src.new) (Rose (S.faults src.old) (S.faults src.new)) (aux.new ≡ aux.old) (P.state aux.new) result }
+    ensures { Trains (S.left src.old) (S.left src.new) (Rose (S.faults src.old) (S.faults src.new))
+        (aux.new ≡ aux.old) (P.state aux.new) result }
 {
     match job_in(alloc, src) {
         Ok(Job::Train { link, sink }) => {
@@ -97,7 +106,8 @@ fn job_in<S: Source>(alloc: Global, src: &mut S) -> Result<Job, Outcome>
 
 /// Prints what is said of an outcome, and gives its status.
 fn report<O: Sink>(alloc: Global, out: &mut O, outcome: &Outcome) -> u8
-    ensures { Reported outcome.now (Rose (O.faults out.old) (O.faults out.new)) (O.taken out.old) (O.taken out.new) result }
+    ensures { Reported (Rose (O.faults out.old) (O.faults out.new)) (O.taken out.old) (O.taken out.new) result
+        outcome.now }
 {
     let mut text = Report::new(alloc);
     match push_outcome(&mut text, outcome) {
@@ -107,7 +117,8 @@ fn report<O: Sink>(alloc: Global, out: &mut O, outcome: &Outcome) -> u8
 }
 
 fn tell<O: Sink>(out: &mut O, text: &[u8], status: u8) -> u8
-    ensures { Tells text.now status (Rose (O.faults out.old) (O.faults out.new)) (O.taken out.old) (O.taken out.new) result }
+    ensures { Tells (Rose (O.faults out.old) (O.faults out.new)) (O.taken out.old) (O.taken out.new) result
+        text.now status }
 {
     match write_whole(out, text) {
         Ok(()) => status,
