@@ -1,5 +1,5 @@
 -- A transaction as it goes on, ask by ask.
-use Rattle.std.proofs.Common.{◌≡◌, ℕ, ◌+◌, ◌<◌, ◌≤◌, List, [], ◌∷◌, ◌++◌, length, refl, sym, ap, ◌∙◌, subst, arith, length-append, Result}
+use Rattle.std.proofs.Common.{◌≡◌, ℕ, ◌+◌, ◌<◌, List, [], ◌∷◌, ◌++◌, length, refl, sym, subst, arith, length-append, Result}
 use Rattle.std.proofs.lemmas.List.{map-append}
 use Rattle.std.specs.List.{AllByRecursion}
 use Rattle.dpx_base.specs.declared.aux_port.Answer.{Answer}
@@ -10,7 +10,7 @@ use Rattle.dpx_base.proofs.Port.{Added-append, Added-nothing}
 use Rattle.dpx_aux.specs.declared.request.Request.{Request}
 use Rattle.dpx_aux.specs.declared.transaction.AuxEnd.{AuxEnd}
 use Rattle.dpx_aux.specs.declared.transaction.Heard.{Heard}
-use Rattle.dpx_aux.specs.declared.transaction.Heard.TheVariants.{End, InVain}
+use Rattle.dpx_aux.specs.declared.transaction.Heard.TheVariants.{InVain}
 use Rattle.dpx_aux.specs.declared.transaction.LastAnswer.{LastAnswer}
 use Rattle.dpx_aux.specs.Request.{address_of, request_bytes}
 use Rattle.dpx_aux.specs.Conversation.{Converses}

@@ -1,19 +1,17 @@
 -- What the answers decide: of two histories of a part whose answers begin alike, entries and results are the same.
 use Rattle.std.proofs.lemmas.List.{append_cancel_left}
 use Rattle.std.proofs.Common.{◌≡◌, ℕ, ◌+◌, ◌<◌, Bool, true, false, List, [], ◌∷◌, ◌++◌, length, refl, sym, ap, ◌∙◌, subst, arith, append_assoc, Result, Ok, Err, MatchResult}
-use Rattle.std.specs.Prelude.{⊤}
 use Rattle.std.specs.List.{AllByRecursion}
 use Rattle.dpx_base.specs.declared.aux_port.Answer.{Answer}
 use Rattle.dpx_base.specs.declared.aux_port.Entry.{Entry}
-use Rattle.dpx_base.specs.declared.aux_port.Entry.TheVariants.{Asked, Waited}
 use Rattle.dpx_base.specs.Port.{answers_of}
 use Rattle.dpx_base.proofs.Port.{answers_of-append}
 use Rattle.dpx_aux.specs.declared.request.Request.{Request}
 use Rattle.dpx_aux.specs.declared.transaction.AuxEnd.{AuxEnd}
 use Rattle.dpx_aux.specs.declared.transaction.Heard.{Heard}
 use Rattle.dpx_aux.specs.declared.transaction.Heard.TheVariants.{End, InVain}
-use Rattle.dpx_aux.specs.Conversation.{Ends, Waits, Then, ◌>>=◌, Choice, IsDecided}
-use Rattle.dpx_aux.specs.Request.{address_of, request_bytes}
+use Rattle.dpx_aux.specs.Conversation.{Ends, Waits, ◌>>=◌, Choice, IsDecided}
+use Rattle.dpx_aux.specs.Request.{address_of}
 use Rattle.dpx_aux.specs.Transaction.{Transaction, IsInVain, EndsAs, heard_from, asks_at_most, asked_with}
 
 pub ends_decided : {R : Type 0} (value : R) → IsDecided (Ends value)

@@ -1,13 +1,11 @@
 -- The parts of a conversation, call by call, and what the answers decide.
-use Rattle.std.proofs.Common.{◌≡◌, ℕ, ◌+◌, Bool, true, false, List, [], ◌∷◌, ◌++◌, refl, sym, ap, ◌∙◌, subst, arith, append_assoc, Result, Ok, Err}
-use Rattle.std.specs.Prelude.{⊤}
+use Rattle.std.proofs.Common.{◌≡◌, ℕ, Bool, true, false, List, [], ◌∷◌, ◌++◌, refl, sym, Result, Ok, Err}
 use Rattle.std.proofs.lemmas.List.{append-nil}
-use Rattle.dpx_base.specs.declared.aux_port.Answer.{Answer}
 use Rattle.dpx_base.specs.declared.aux_port.Entry.{Entry}
 use Rattle.dpx_base.specs.declared.aux_port.Entry.TheVariants.{Waited}
-use Rattle.dpx_base.specs.Port.{PortState, Added, answers_of}
-use Rattle.dpx_base.proofs.Port.{Added-append, Added-nothing, answers_of-append}
-use Rattle.dpx_aux.specs.Conversation.{Converses, Ends, Waits, Then, ◌>>=◌, Choice, IsDecided}
+use Rattle.dpx_base.specs.Port.{PortState, Added}
+use Rattle.dpx_base.proofs.Port.{Added-append, Added-nothing}
+use Rattle.dpx_aux.specs.Conversation.{Converses, Ends, Waits, ◌>>=◌, Choice}
 
 -- a call that asked nothing
 pub ends : {Plan R : Type 0} (state : PortState Plan) (value : R) → Converses (Ends value) state state value

@@ -3,14 +3,19 @@
 //! * `request`: a request and its bytes
 //! * `reply`: what the bytes of an answer say to a request
 //! * `transaction`: one transaction, and how it ends
+//! * `laws`: what the definitions obey
 //!
 //! `specs/Conversation.antt` has the parts that histories are made of, for this crate and those above it.
 #![tactic(auto)]
 
+mod laws;
 mod reply;
 mod request;
+#[cfg(test)]
+mod tests;
 mod transaction;
 
+pub use laws::one_transaction;
 pub use reply::{Reply, read_reply};
 pub use request::{AuxBad, Data16, Request, encode_request, read_request};
 pub use transaction::{AuxEnd, LastAnswer, transact};

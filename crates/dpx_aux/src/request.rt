@@ -8,7 +8,8 @@ use dpx_base::{BoundedBytes, Bytes20};
 /// The bytes that one request brings, or that its reply brings.
 pub type Data16 = BoundedBytes<16>;
 
-/// A native AUX request (VESA DisplayPort 1.4a, AUX transaction syntax).
+/// A native AUX request (VESA DisplayPort 1.4a, AUX transaction syntax). It is valid where it asks for or brings 1 to 16
+/// bytes that lie within the 20 bits of an address.
 #[derive(Drop)]
 pub enum Request {
     /// Asks for `length` bytes, from `address` on.
@@ -20,7 +21,7 @@ pub enum Request {
 /// Why bytes are those of no valid request.
 #[derive(Clone, Copy, Debug, PartialEq, Eq)]
 pub enum AuxBad {
-    /// So many bytes: fewer than four, or not the number that the length says.
+    /// So many bytes: fewer than four, or not the number that the length says, or the length is above sixteen.
     BadLength(usize),
     /// The first byte has neither command.
     BadCommand(u8),
@@ -32,7 +33,8 @@ const WRITE: u8 = 8;
 
 const READ: u8 = 9;
 
-/// The bytes of the request on the AUX channel.
+/// The bytes of the request on the AUX channel: command and address in three, the length less one, and what a write
+/// brings.
 pub fn encode_request(request: &Request) -> Bytes20
     requires { IsValid request.now }
     ensures { result ≡ request_bytes request.now }

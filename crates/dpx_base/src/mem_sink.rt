@@ -1,6 +1,7 @@
-ghost use Rattle.std.specs.Prelude.{◌≡◌, ◌<◌, ◌≤◌, ◌↔◌, ◌⊎◌, [], min, length, Contains, IsErr, IfOk, OnOk, Some};
+ghost use Rattle.std.specs.Prelude.{◌≡◌, ◌<◌, ◌≤◌, ◌↔◌, ◌⊎◌, [], min, length, Contains, IsErr, IfOk, Some};
 ghost use Rattle.std.specs.Io.KnownBytes.{WriteAppends};
 ghost use Rattle.dpx_base.specs.Faults.{HasCause};
+ghost use Rattle.dpx_base.specs.Seen.{sink_after};
 
 use crate::{Failed, Memory, Sink};
 use std::alloc::Global;
@@ -28,7 +29,8 @@ impl Model for MemSink {
 }
 
 impl MemSink {
-    /// Takes its room at once. A write fails where its number, from 0, stands in `fails` or no room is left.
+    /// Takes room for `room` bytes at once. A write fails where its number, from 0, stands in `fails` or no room
+    /// is left.
     pub fn new(alloc: Global, room: usize, fails: Vec<u64>) -> Result<Self, Memory>
         ensures { IfOk result
             (λ sink. sink ≡ record { taken = []; room = room; fails = fails.items; writes = 0; faults = 0 }) }
@@ -64,7 +66,7 @@ impl Sink for MemSink {
         ensures cause { HasCause self.old.faults self.new.faults result }
         ensures fails { IsErr result ↔ (Contains self.old.fails self.old.writes ⊎ (self.old.room ≡ 0)) }
         ensures count { IfOk result (λ n. n ≡ min (length piece.now) self.old.room) }
-        ensures calm { OnOk result (self.new.faults ≡ self.old.faults) }
+        ensures after { self.new ≡ sink_after self.old piece.now result }
     {
         let number = self.writes;
         self.writes = self.writes.saturating_add(1);

@@ -1,1 +1,4 @@
+pub mod Bounded
+pub mod Decided
+pub mod Good
 pub mod Tries

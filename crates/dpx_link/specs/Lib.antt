@@ -1,3 +1,4 @@
 pub mod Attempt
 pub mod Fallback
+pub mod Laws
 pub mod Training

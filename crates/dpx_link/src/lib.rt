@@ -4,12 +4,15 @@
 //! * `attempt`: one attempt on one configuration
 //! * `training`: the whole training
 //! * `train_end`: how it ends
+//! * `laws`: what every training obeys
 #![tactic(auto)]
 
 mod attempt;
 mod fallback;
+mod laws;
 mod train_end;
 mod training;
 
+pub use laws::{falls_in_order, is_bounded, one_history, trained_is_good};
 pub use train_end::TrainEnd;
 pub use training::train;

@@ -1,0 +1,11 @@
+-- What contracts see of the program's own source and sink, which tell nothing of contents: this project's own.
+use Rattle.std.specs.Prelude.{ℕ, Bool, true, false, Option, Some, None}
+
+-- whether there is anything to read from or to write to, and how many calls failed
+pub record Held : Type 0 where
+  pub holds : Bool
+  pub faults : ℕ
+
+abbrev pub is_there : {T : Type 0} → Option T → Bool
+is_there None = false
+is_there (Some file) = true

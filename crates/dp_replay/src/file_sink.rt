@@ -1,0 +1,92 @@
+ghost use Rattle.std.specs.Prelude.{◌≡◌, ◌<◌, ◌≤◌, false, true, length, IfOk, IsErr, OnOk};
+ghost use Rattle.dpx_base.specs.Faults.{HasCause};
+
+use dpx_base::{Failed, Sink};
+use std::fs;
+use std::fs::File;
+use std::io::{Stdout, Write};
+use std::marker::Model;
+use std::rt::Files;
+
+/// Where a sink's bytes go.
+#[derive(Drop)]
+enum Target {
+    File(File),
+    Output(Stdout),
+}
+
+/// A sink over a file or standard output. It tells nothing of its contents.
+#[derive(Drop)]
+pub struct FileSink {
+    target: Option<Target>,
+    faults: u64,
+}
+
+impl Model for FileSink {
+    ghost use Rattle.dp_replay.specs.Held.{Held, is_there};
+
+    ghost Value = { Held };
+
+    ghost view = { λ s. record { holds = is_there s.target; faults = s.faults } };
+}
+
+impl FileSink {
+    /// Holds the file of this name, made or emptied, or nothing where it can't be opened.
+    pub fn create<R: Files<File = File>>(files: &R, name: &str) -> FileSink
+        ensures { result.faults ≡ 0 }
+    {
+        FileSink {
+            target: fs::create(files, name).ok().map(Target::File),
+            faults: 0,
+        }
+    }
+
+    pub fn output(output: Stdout) -> FileSink
+        ensures { result ≡ record { holds = true; faults = 0 } }
+    {
+        FileSink {
+            target: Some(Target::Output(output)),
+            faults: 0,
+        }
+    }
+
+    /// A sink that holds nothing: each write to it fails.
+    pub fn nothing() -> FileSink
+        ensures { result ≡ record { holds = false; faults = 0 } }
+    {
+        FileSink {
+            target: None,
+            faults: 0,
+        }
+    }
+}
+
+impl Sink for FileSink {
+    ghost use Rattle.std.specs.Prelude.{None};
+
+    ghost taken = { λ _. None };
+
+    ghost faults = { λ s. s.faults };
+
+    /// A write that takes no byte is a fault too.
+    fn write(&mut self, piece: &[u8]) -> Result<usize, Failed>
+        requires { 0 < length piece.now }
+        ensures some { IfOk result (λ n. 0 < n) }
+        ensures within { IfOk result (λ n. n ≤ length piece.now) }
+        ensures cause { HasCause self.old.faults self.new.faults result }
+        ensures nothing { self.old.holds ≡ false → IsErr result }
+        ensures held { self.new.holds ≡ self.old.holds }
+        ensures calm { OnOk result (self.new.faults ≡ self.old.faults) }
+    {
+        let count = match &mut self.target {
+            Some(Target::File(file)) => file.write(piece).unwrap_or(0),
+            Some(Target::Output(output)) => output.write(piece).unwrap_or(0),
+            None => 0,
+        };
+        if count == 0 {
+            self.faults = self.faults.saturating_add(1);
+            return Err(Failed);
+        }
+        Ok(count)
+    }
+}

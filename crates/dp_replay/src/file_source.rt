@@ -1,0 +1,70 @@
+ghost use Rattle.std.specs.Prelude.{◌≡◌, false, IsErr, OnOk};
+ghost use Rattle.std.specs.Io.{ReadsAtMost};
+ghost use Rattle.dpx_base.specs.Faults.{HasCause};
+
+use dpx_base::{Failed, Source};
+use std::fs::File;
+use std::io::Read;
+use std::marker::Model;
+use std::rt::Files;
+
+/// A source over a file. It tells nothing of its contents.
+#[derive(Drop)]
+pub struct FileSource {
+    file: Option<File>,
+    faults: u64,
+}
+
+impl Model for FileSource {
+    ghost use Rattle.dp_replay.specs.Held.{Held, is_there};
+
+    ghost Value = { Held };
+
+    ghost view = { λ s. record { holds = is_there s.file; faults = s.faults } };
+}
+
+impl FileSource {
+    /// Holds the file of this name, or nothing where it can't be opened.
+    pub fn open<R: Files<File = File>>(files: &R, name: &str) -> FileSource
+        ensures { result.faults ≡ 0 }
+    {
+        FileSource {
+            file: File::open(files, name).ok(),
+            faults: 0,
+        }
+    }
+
+    /// A source that holds nothing: each read of it fails.
+    pub fn nothing() -> FileSource
+        ensures { result ≡ record { holds = false; faults = 0 } }
+    {
+        FileSource {
+            file: None,
+            faults: 0,
+        }
+    }
+}
+
+impl Source for FileSource {
+    ghost use Rattle.std.specs.Prelude.{None};
+
+    ghost left = { λ _. None };
+
+    ghost faults = { λ s. s.faults };
+
+    fn read(&mut self, buf: &mut [u8]) -> Result<usize, Failed>
+        ensures within { ReadsAtMost result buf.new }
+        ensures cause { HasCause self.old.faults self.new.faults result }
+        ensures nothing { self.old.holds ≡ false → IsErr result }
+        ensures held { self.new.holds ≡ self.old.holds }
+        ensures calm { OnOk result (self.new.faults ≡ self.old.faults) }
+    {
+        if let Some(file) = &mut self.file {
+            if let Ok(count) = file.read(buf) {
+                return Ok(count);
+            }
+        }
+        self.faults = self.faults.saturating_add(1);
+        Err(Failed)
+    }
+}

@@ -1,0 +1,61 @@
+//! A replay tool for the link layer of DisplayPort: trains a link against the sink that a job describes, and prints how
+//! that ended. `dpx_cli` has the commands; here are the files and the process.
+//!
+//! * `file_source`, `file_sink`: bytes from a file; bytes to a file or to standard output
+#![tactic(auto)]
+
+mod file_sink;
+mod file_source;
+#[cfg(test)]
+mod tests;
+
+use dpx_base::Memory;
+use dpx_cli::{Command, WordsEnd, read_words, replay};
+use dpx_sinkmodel::PlanPort;
+use file_sink::FileSink;
+use file_source::FileSource;
+use std::env;
+use std::fs::File;
+use std::io::ErrorKind;
+use std::process::ExitCode;
+use std::rt::{Env, Files};
+
+fn main(rt: HostRuntime) -> ExitCode {
+    let mut out = FileSink::output(rt.stdout());
+    match run(&rt, &mut out) {
+        Ok(status) => ExitCode::from(status),
+        Err(Memory) => {
+            let _ = println!(rt; "memory");
+            ExitCode::from(10)
+        }
+    }
+}
+
+/// Opens the files that the words name, and gives the command's status.
+fn run<R: Env + Files<File = File> + AllocGlobal>(
+    rt: &R,
+    out: &mut FileSink,
+) -> Result<u8, Memory> {
+    let words = words(rt)?;
+    let mut aux = PlanPort::new(rt.alloc())?;
+    let mut src = match read_words(rt.alloc(), words.as_slice()) {
+        Ok(Command::Train { job }) => FileSource::open(rt, job.as_str()),
+        Err(WordsEnd::Usage) => FileSource::nothing(),
+        Err(WordsEnd::Memory) => return Err(Memory),
+    };
+    Ok(replay(rt.alloc(), words.as_slice(), &mut src, &mut aux, out))
+}
+
+/// The words of the command line without the program's name. Where one is no text there are none: they have no reading
+/// either way.
+fn words<R: Env + AllocGlobal>(rt: &R) -> Result<Vec<String>, Memory> {
+    match env::args(rt) {
+        Ok(words) => words.skip(1).collect(rt.alloc()).map_err(|_| Memory),
+        Err(error) => {
+            if error.kind() == ErrorKind::OutOfMemory {
+                return Err(Memory);
+            }
+            Ok(Vec::new(rt.alloc()))
+        }
+    }
+}

@@ -1,0 +1,5 @@
+use Rattle.dpx_aux.proofs.Decided.{transaction_decided}
+use Rattle.dpx_aux.proofs.laws.one_transaction.Goals as goal
+
+pub returns : goal.returns
+returns c request = transaction_decided request

@@ -1,0 +1,315 @@
+ghost use Rattle.std.specs.Prelude.{◌≡◌};
+
+use crate::{
+    AnswerList, Caps, CapsBad, Cell, Channel, Pattern, Status6, has_extended, read_block,
+    read_status, write_registers,
+};
+use dpx_aux::{AuxEnd, LastAnswer};
+use dpx_base::{Answer, AuxPort, Bytes20, Lanes, Link, Rate};
+use std::process::Abort;
+use std::test::Fail;
+
+const HBR2: [u8; 16] = [
+    0x12, 0x14, 0xc4, 0x81, 0, 0, 0, 0, 0, 0, 0, 0, 0, 0, 0x80, 0,
+];
+
+const HBR3: [u8; 16] = [
+    0x14, 0x1e, 0xc4, 0x81, 0, 0, 0, 0, 0, 0, 0, 0, 0, 0, 0x80, 0,
+];
+
+/// A block of capabilities with these bytes at 00001 to 00003 and at 0000E.
+fn block(rate: u8, lanes: u8, pattern: u8, interval: u8) -> [u8; 16] {
+    [
+        0x12, rate, lanes, pattern, 0, 0, 0, 0, 0, 0, 0, 0, 0, 0, interval, 0,
+    ]
+}
+
+fn caps(rate: Rate, lanes: Lanes, tps3: bool, tps4: bool, interval: u8) -> Result<Caps, CapsBad> {
+    Ok(Caps {
+        rate,
+        lanes,
+        tps3,
+        tps4,
+        interval,
+    })
+}
+
+#[test]
+fn block_of_capabilities_is_read_or_refused_by_its_first_fault(rt: HostRuntime) {
+    let rows = [
+        (HBR2, caps(Rate::Hbr2, Lanes::Four, true, true, 0)),
+        (HBR3, caps(Rate::Hbr3, Lanes::Four, true, true, 0)),
+        (
+            block(0x19, 0x84, 0, 0),
+            caps(Rate::Hbr2, Lanes::Four, false, false, 0),
+        ),
+        (
+            block(0x06, 0xc1, 0x7f, 0x7f),
+            caps(Rate::Rbr, Lanes::One, true, false, 0x7f),
+        ),
+        (
+            block(0x0a, 0xa2, 0x80, 0x84),
+            caps(Rate::Hbr, Lanes::Two, false, true, 4),
+        ),
+        (block(0x14, 0x83, 0x81, 0), Err(CapsBad::BadLanes(0x83))),
+        (block(0x14, 0x80, 0x81, 0), Err(CapsBad::BadLanes(0x80))),
+        (block(0x14, 0x91, 0x81, 0), Err(CapsBad::BadLanes(0x91))),
+        (block(0x14, 0x04, 0x81, 0), Err(CapsBad::NoEnhanced(0x04))),
+        (block(0x05, 0x84, 0x81, 0), Err(CapsBad::BadRate(0x05))),
+        // lanes, framing and rate are looked at in this order
+        (block(0x05, 0x03, 0, 0), Err(CapsBad::BadLanes(0x03))),
+        (block(0x05, 0x44, 0, 0), Err(CapsBad::NoEnhanced(0x44))),
+    ];
+    for (block, caps) in rows {
+        assert_eq!(rt; Caps::read(&block), caps, "{block:?}");
+    }
+}
+
+#[test]
+fn extended_field_is_there_where_the_highest_bit_says_so(rt: HostRuntime) {
+    for (byte, there) in [(0x00, false), (0x7f, false), (0x80, true), (0xff, true)] {
+        assert_eq!(rt;
+            has_extended(&block(0xff, 0xff, 0xff, byte)),
+            there,
+            "at {byte}"
+        );
+    }
+}
+
+fn link(rate: Rate, lanes: Lanes, enhanced: bool) -> Link {
+    Link {
+        rate,
+        lanes,
+        enhanced,
+    }
+}
+
+#[test]
+fn training_starts_at_the_lower_rate_and_the_fewer_lanes(rt: HostRuntime) -> Result<(), Fail> {
+    let rows = [
+        ((Rate::Hbr3, Lanes::Four, true), (Rate::Hbr2, Lanes::Two)),
+        ((Rate::Hbr2, Lanes::Two, false), (Rate::Hbr2, Lanes::Two)),
+        ((Rate::Rbr, Lanes::Four, true), (Rate::Rbr, Lanes::Two)),
+        ((Rate::Hbr3, Lanes::One, true), (Rate::Hbr2, Lanes::One)),
+        ((Rate::Hbr, Lanes::One, false), (Rate::Hbr, Lanes::One)),
+    ];
+    let sink = Caps::read(&block(0x14, 0xc2, 0x81, 0))?;
+    for ((rate, lanes, enhanced), (lower, fewer)) in rows {
+        let start = sink.start(link(rate, lanes, enhanced));
+        assert_eq!(rt; start, link(lower, fewer, enhanced));
+    }
+    Ok(())
+}
+
+#[test]
+fn highest_known_pattern_is_the_one_for_equalisation(rt: HostRuntime) -> Result<(), Fail> {
+    let rows = [
+        (0x84, 0x7f, Pattern::Tps2, 0x22),
+        (0xc4, 0x7f, Pattern::Tps3, 0x23),
+        (0xc4, 0x80, Pattern::Tps4, 0x07),
+        (0x84, 0x80, Pattern::Tps4, 0x07),
+    ];
+    for (lanes, pattern, known, register) in rows {
+        let sink = Caps::read(&block(0x14, lanes, pattern, 0))?;
+        assert_eq!(rt; (sink.pattern(), known.register()), (known, register));
+    }
+    assert_eq!(rt; Pattern::Tps1.register(), 0x21);
+    Ok(())
+}
+
+fn status(lanes: [u8; 2], align: u8, requests: [u8; 2]) -> Status6 {
+    Status6 {
+        bytes: [lanes[0], lanes[1], align, 0, requests[0], requests[1]],
+    }
+}
+
+#[test]
+fn status_says_what_the_lanes_in_use_have_reached(rt: HostRuntime) {
+    let rows = [
+        (Lanes::One, [0x00, 0x00], 0x01, (false, false)),
+        (Lanes::One, [0x01, 0x00], 0x01, (true, false)),
+        (Lanes::One, [0x07, 0x00], 0x01, (true, true)),
+        (Lanes::One, [0x0f, 0x00], 0x81, (true, true)),
+        // alignment is bit 0 alone
+        (Lanes::One, [0x07, 0x00], 0x00, (true, false)),
+        (Lanes::Four, [0x77, 0x77], 0xfe, (true, false)),
+        // the lower lane has the low bits
+        (Lanes::One, [0x70, 0x77], 0x01, (false, false)),
+        (Lanes::Two, [0x07, 0x77], 0x01, (false, false)),
+        (Lanes::Two, [0x77, 0x00], 0x01, (true, true)),
+        (Lanes::Four, [0x77, 0x07], 0x01, (false, false)),
+        (Lanes::Four, [0x77, 0x70], 0x01, (false, false)),
+        (Lanes::Four, [0x77, 0x77], 0x01, (true, true)),
+        // one lane without its equalisation, its symbols, its clock
+        (Lanes::Two, [0x57, 0x00], 0x01, (true, false)),
+        (Lanes::Four, [0x77, 0x73], 0x01, (true, false)),
+        (Lanes::Four, [0x77, 0x67], 0x01, (false, false)),
+    ];
+    for (lanes, bytes, align, reached) in rows {
+        let status = status(bytes, align, [0; 2]);
+        let said = (status.cr_done(lanes), status.eq_done(lanes));
+        assert_eq!(rt; said, reached, "{lanes:?} {bytes:?} {align}");
+    }
+}
+
+#[test]
+fn drive_is_what_the_lanes_in_use_ask_for(rt: HostRuntime) {
+    // for each emphasis asked for, what swings of 0 to 3 leave of it
+    let drives = [
+        [0x00, 0x01, 0x02, 0x27],
+        [0x08, 0x09, 0x2a, 0x27],
+        [0x10, 0x31, 0x2a, 0x27],
+        [0x38, 0x31, 0x2a, 0x27],
+    ];
+    for (emphasis, drives) in drives.iter().enumerate() {
+        for (swing, drive) in drives.iter().enumerate() {
+            let asked = (swing + 4 * emphasis) as u8;
+            let level = status([0; 2], 0, [asked, 0]).level(Lanes::One);
+            assert_eq!(rt; level.registers, [*drive, 0, 0, 0], "at {asked}");
+        }
+    }
+    let rows = [
+        (Lanes::One, [0x27, 0x00, 0x00, 0x00]),
+        (Lanes::Two, [0x27, 0x2a, 0x00, 0x00]),
+        (Lanes::Four, [0x27, 0x2a, 0x31, 0x08]),
+    ];
+    for (lanes, drive) in rows {
+        let level = status([0; 2], 0, [0xa3, 0x4d]).level(lanes);
+        assert_eq!(rt; level.registers, drive, "{lanes:?}");
+    }
+}
+
+#[test]
+fn each_rate_and_lane_has_a_cell_of_its_own(rt: HostRuntime) {
+    let mut channel = Channel::perfect();
+    channel.set(Rate::Hbr2, 3, Cell::new(true, false, 2, 3));
+    channel.set(Rate::Hbr3, 0, Cell::new(false, true, 1, 0));
+    let cell = channel.cell(Rate::Hbr2, 3);
+    let fields = (cell.cr(), cell.eq(), cell.swing(), cell.emph());
+    assert_eq!(rt; fields, (true, false, 2, 3));
+    assert_eq!(rt; channel.cell(Rate::Hbr3, 0), Cell::new(false, true, 1, 0));
+    let good = Cell::new(true, true, 0, 0);
+    for rate in [Rate::Rbr, Rate::Hbr] {
+        assert_eq!(rt;
+            (channel.cell(rate, 0), channel.cell(rate, 3)),
+            (good, good)
+        );
+    }
+    assert_eq!(rt;
+        (channel.cell(Rate::Hbr2, 0), channel.cell(Rate::Hbr3, 3)),
+        (good, good)
+    );
+}
+
+#[test]
+fn answers_stay_in_their_order(rt: HostRuntime) -> Result<(), Fail> {
+    let mut answers = Vec::new(rt.alloc());
+    answers.push(Answer::Silent)?;
+    answers.push(Answer::Bytes(Bytes20::from_slice(&[0x20])))?;
+    let list = AnswerList::from_vec(answers);
+    let [Answer::Silent, Answer::Bytes(bytes)] = list.as_slice() else {
+        return Err(Fail::new("other answers"));
+    };
+    assert_eq!(rt; bytes.as_slice(), [0x20].as_slice());
+    Ok(())
+}
+
+/// Answers a request of these bytes, after one that it defers, and is silent to all others.
+#[derive(Drop)]
+struct Replies<'a> {
+    request: &'a [u8],
+    reply: &'a [u8],
+    asked: u64,
+}
+
+impl AuxPort for Replies<'_> {
+    ghost use Rattle.std.specs.Prelude.{None};
+
+    type Plan = ();
+
+    ghost state = { λ p. record { asked = p.asked; history = None; plan = None } };
+
+    fn ask(&mut self, request: &[u8]) -> Answer {
+        self.asked += 1;
+        if self.asked == 1 {
+            Answer::Bytes(Bytes20::from_slice(&[0x20]))
+        } else if request == self.request && self.reply.len() <= 20 {
+            Answer::Bytes(Bytes20::from_slice(self.reply))
+        } else {
+            Answer::Silent
+        }
+    }
+
+    fn wait(&mut self, _micros: u32) {}
+
+    fn asked(&self) -> u64 {
+        self.asked
+    }
+}
+
+fn port<'a>(request: &'a [u8], reply: &'a [u8]) -> Replies<'a>
+    ensures { result.asked ≡ 0 }
+{
+    Replies {
+        request,
+        reply,
+        asked: 0,
+    }
+}
+
+#[test]
+fn registers_are_written_and_read_in_one_transaction_each(rt: HostRuntime) {
+    let mut sink = port(&[0x80, 0x01, 0x00, 0x01, 0x1e, 0x84], &[0x00]);
+    assert_eq!(rt; write_registers(&mut sink, 0x0_0100, &[0x1e, 0x84]), Ok(()));
+    assert_eq!(rt; sink.asked(), 2);
+
+    let reply = [
+        0x00, 0x12, 0x14, 0xc4, 0x81, 0, 0, 0, 0, 0, 0, 0, 0, 0, 0, 0x80, 0,
+    ];
+    let mut sink = port(&[0x90, 0x00, 0x00, 0x0f], &reply);
+    assert_eq!(rt; read_block(&mut sink, 0), Ok(HBR2));
+    assert_eq!(rt; sink.asked(), 2);
+
+    let mut sink = port(
+        &[0x90, 0x02, 0x02, 0x05],
+        &[0x00, 0x11, 0x22, 0x80, 0x00, 0x0a, 0xff],
+    );
+    assert_eq!(rt;
+        read_status(&mut sink),
+        Ok(Status6 {
+            bytes: [0x11, 0x22, 0x80, 0x00, 0x0a, 0xff]
+        })
+    );
+    assert_eq!(rt; sink.asked(), 2);
+}
+
+#[test]
+fn failed_transaction_is_handed_on(rt: HostRuntime) {
+    let refused = AuxEnd::Refused {
+        address: 0x0_0103,
+        taken: 1,
+    };
+    let mut sink = port(&[0x80, 0x01, 0x03, 0x01, 0x27, 0x2a], &[0x10, 0x01]);
+    assert_eq!(rt;
+        write_registers(&mut sink, 0x0_0103, &[0x27, 0x2a]),
+        Err(refused)
+    );
+
+    let spent = AuxEnd::Spent {
+        address: 0x0_2200,
+        last: LastAnswer::Silent,
+    };
+    assert_eq!(rt; read_block(&mut port(&[], &[]), 0x0_2200), Err(spent));
+
+    // five bytes are no status
+    let spent = AuxEnd::Spent {
+        address: 0x0_0202,
+        last: LastAnswer::Malformed,
+    };
+    let mut sink = port(
+        &[0x90, 0x02, 0x02, 0x05],
+        &[0x00, 0x77, 0x77, 0x01, 0x00, 0x00],
+    );
+    assert_eq!(rt; read_status(&mut sink), Err(spent));
+    assert_eq!(rt; sink.asked(), 8);
+}

@@ -1,0 +1,29 @@
+//! Laws of the definitions that training is proved against. Each function's contract is the law.
+ghost use Rattle.std.specs.Prelude.{◌≤◌};
+ghost use Rattle.dpx_base.specs.Port.{asks};
+ghost use Rattle.dpx_aux.specs.Conversation.{IsDecided};
+ghost use Rattle.dpx_link.specs.Laws.{MadeOfAtMost, HistoriesAre, ResultsAre, FallsAlways};
+ghost use Rattle.dpx_link.specs.Training.{Training, IsGood};
+
+use dpx_base::Link;
+
+/// For given answers there is one training of `top`: one history and one end.
+pub fn one_history(top: Link)
+    ensures { IsDecided (Training top) }
+{}
+
+/// What is tried next never has more lanes, and on the same lanes it has a lower rate.
+pub fn falls_in_order()
+    ensures { FallsAlways }
+{}
+
+/// A training has at most 4 transactions, and 32 for each of 12 attempts; each asks at most 8 times.
+pub fn is_bounded(top: Link)
+    ensures transactions { HistoriesAre (Training top) (MadeOfAtMost 388) }
+    ensures asks { HistoriesAre (Training top) (λ history. asks history ≤ 3104) }
+{}
+
+/// A training says Trained only where the last status shows every lane in use done, whatever its history.
+pub fn trained_is_good(top: Link)
+    ensures { ResultsAre (Training top) IsGood }
+{}
