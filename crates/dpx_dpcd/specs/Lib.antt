@@ -2,6 +2,7 @@ pub mod Caps
 pub mod Cell
 pub mod Channel
 pub mod LoadPort
+pub mod Model
 pub mod Pattern
 pub mod RegFile
 pub mod Registers
