@@ -1,4 +1,5 @@
 pub mod Jobs
 pub mod LineSteps
+pub mod Modelled
 pub mod Rows
 pub mod Transfers

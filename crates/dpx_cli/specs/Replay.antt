@@ -7,12 +7,14 @@ use Rattle.dpx_base.specs.declared.aux_port.Entry.{Entry}
 use Rattle.dpx_base.specs.declared.link.Link.{Link}
 use Rattle.dpx_base.specs.Port.{PortState, asks}
 use Rattle.dpx_dpcd.specs.declared.plan.SinkPlan.{SinkPlan}
+use Rattle.dpx_dpcd.specs.Model.{IsPlan}
+use Rattle.dpx_complete.specs.Complete.{EndsAsPlanned}
 use Rattle.dpx_files.specs.declared.job.Job.{Job}
 use Rattle.dpx_files.specs.declared.job.Job.TheVariants as job
 use Rattle.dpx_files.specs.declared.job.Need.TheVariants as need
 use Rattle.dpx_files.specs.declared.refusal.JobBad.{JobBad}
 use Rattle.dpx_files.specs.declared.refusal.JobBad.TheVariants.{TooLong, NotJson, Wrong, Memory}
-use Rattle.dpx_files.specs.Job.{reading, longest_job}
+use Rattle.dpx_files.specs.Job.{reading, longest_job, plan_asked}
 use Rattle.dpx_link.specs.declared.train_end.TrainEnd.{TrainEnd}
 use Rattle.dpx_link.specs.declared.train_end.TrainEnd.TheVariants.{Trained, NotTrained, CapsRefused, AuxEnded}
 use Rattle.dpx_link.specs.Training.{Training, IsGood}
@@ -23,20 +25,26 @@ use Rattle.dpx_cli.specs.Lines.{train_report}
 use Rattle.dpx_cli.specs.Transfer.{AppendsFront}
 use Rattle.dpx_cli.specs.Words.{command_of}
 
--- The job's sink was loaded and its link trained, and that ended so.
-pub record TrainedAs (left_before left_now : Option (List ℕ)) (sink : PortState SinkPlan)
-    (end : TrainEnd) : Type 0 where
-  pub link : Link
-  pub plan : SinkPlan
+-- A plan was loaded and a link trained, and that ended so: by the history, over every port only with a good last status,
+-- and, where the port tells its plan and its history, as the plan has it.
+pub record TrainedWith (link : Link) (plan : SinkPlan) (sink : PortState SinkPlan) (end : TrainEnd) : Type 0 where
   pub entries : List Entry
-  pub asked_for : IfSome left_before (λ bytes. reading need.Train bytes ≡ Ok (job.Train link plan))
-  pub read_whole : IsAtEnd left_now
-  pub loaded : IfSome sink.plan (λ told. told ≡ plan)
   pub training : Training link end entries
+  pub loaded : IfSome sink.plan (λ told. told ≡ plan)
   pub history : IfSome sink.history (λ told. told ≡ entries)
   pub counted : sink.asked ≡ asks entries
   pub few : sink.asked ≤ 3104
   pub good : IsGood end
+  pub as_planned : IfSome sink.plan (λ told. IfSome sink.history (λ _. EndsAsPlanned told link end))
+
+-- The link and the sink were those of the job that the source had, which was read to its end.
+pub record TrainedAs (left_before left_now : Option (List ℕ)) (sink : PortState SinkPlan)
+  (end : TrainEnd) : Type 0 where
+  pub link : Link
+  pub plan : SinkPlan
+  pub asked_for : IfSome left_before (λ bytes. reading need.Train bytes ≡ Ok (job.Train link plan))
+  pub read_whole : IsAtEnd left_now
+  pub trained : TrainedWith link plan sink end
 
 -- A job is refused for what its bytes are. It was read to its end; or it is too long, and no more was read than shows it.
 pub record RefusedAs (left_before left_now : Option (List ℕ)) (why : JobBad) : Type 0 where
@@ -51,6 +59,7 @@ pub record RefusedAs (left_before left_now : Option (List ℕ)) (why : JobBad) :
 pub record HasJob (left_before left_now : Option (List ℕ)) (asked : Job) : Type 0 where
   pub reads : IfSome left_before (λ bytes. reading need.Train bytes ≡ Ok asked)
   pub read_whole : IsAtEnd left_now
+  pub plan : IsPlan (plan_asked asked)
 
 abbrev pub HasNoJob : (left_before left_now : Option (List ℕ)) (ReadFailed : Type 0) → Outcome → Type 0
 HasNoJob left_before left_now ReadFailed outcome.Usage = ⊥

@@ -1,8 +1,9 @@
 ghost use Rattle.std.specs.Prelude.{◌≡◌, ◌⊎◌, None, IsSome, IfSome, IsSomeAnd, map, string_bytes};
 ghost use Rattle.std.specs.Io.KnownBytes.{Appends};
 ghost use Rattle.dpx_base.specs.Faults.{Rose};
+ghost use Rattle.dpx_dpcd.specs.Model.{IsPlan};
 ghost use Rattle.dpx_cli.specs.Outcome.{usage_line};
-ghost use Rattle.dpx_cli.specs.Replay.{Caused, Trains, ReadsJob, Reported, Tells, Does, IsClean, Exactly};
+ghost use Rattle.dpx_cli.specs.Replay.{Caused, Trains, TrainedWith, ReadsJob, Reported, Tells, Does, IsClean, Exactly};
 ghost use Rattle.dpx_cli.specs.Replay.{Ended, Refused, Loaded, SaysEnded, IsStatus, IsJob, IsNoJob};
 ghost use Rattle.dpx_cli.specs.Words.{command_in};
 
@@ -10,10 +11,11 @@ use crate::outcome::{MEMORY, Outcome, no_job, push_outcome, status};
 use crate::report::Report;
 use crate::transfer::{ReadEnd, read_whole, write_whole};
 use crate::words::{Command, WordsEnd, read_words};
-use dpx_base::{Sink, Source};
-use dpx_dpcd::LoadPort;
+use dpx_base::{Link, Sink, Source};
+use dpx_complete::training_is_complete;
+use dpx_dpcd::{LoadPort, SinkPlan};
 use dpx_files::{Job, Need, read_job};
-use dpx_link::train;
+use dpx_link::{TrainEnd, train};
 use std::alloc::Global;
 
 /// Does what the words of the command line ask for: `words` are those without the program's name. The job comes from
@@ -81,12 +83,19 @@ fn train_command<S: Source, P: LoadPort>(alloc: Global, src: &mut S, aux: &mut P
         (aux.new ≡ aux.old) (P.state aux.new) result }
 {
     match job_in(alloc, src) {
-        Ok(Job::Train { link, sink }) => {
-            aux.load(sink);
-            Outcome::Ended(train(aux, link))
-        }
+        Ok(Job::Train { link, sink }) => Outcome::Ended(train_with(aux, link, sink)),
         Err(outcome) => outcome,
     }
+}
+
+/// Loads the sink, and trains the link against it.
+fn train_with<P: LoadPort>(aux: &mut P, link: Link, plan: SinkPlan) -> TrainEnd
+    requires { IsPlan plan }
+    ensures { TrainedWith link plan (P.state aux.new) result }
+{
+    aux.load(plan);
+    training_is_complete();
+    train(aux, link)
 }
 
 /// Reads the job from the source.

@@ -9,6 +9,11 @@ use Rattle.dpx_dpcd.specs.Cell.{CellFacts}
 abbrev pub IsCell : CellFacts → Type 0
 IsCell cell = (cell.swing ≤ 3) × (cell.emph ≤ 3)
 
+-- so many cells
+pub record AreCells (count : ℕ) (cells : List CellFacts) : Type 0 where
+  pub counted : length cells ≡ count
+  pub drives : AllByRecursion IsCell cells
+
 -- blocks of sixteen bytes, and sixteen cells
 pub record IsModel (caps extended : List ℕ) (channel : List CellFacts) : Type 0 where
   pub block : length caps ≡ 16

@@ -51,6 +51,10 @@ abbrev pub link_asked : Job → Link
 link_asked (job.Train link sink) = link
 
 -- what the value of a text says, if it is one
+-- what its sink is to answer
+abbrev pub plan_asked : Job → SinkPlan
+plan_asked (job.Train link sink) = sink
+
 abbrev pub job_in : Need → Option Data → Result Job JobBad
 job_in need None = Err NotJson
 job_in need (Some value) = refused (job_of need value)

@@ -1,5 +1,6 @@
 ghost use Rattle.std.specs.Prelude.{◌≡◌, ◌≤◌, ◌++◌, IfSome};
 ghost use Rattle.serde_json.specs.View.{view};
+ghost use Rattle.dpx_dpcd.specs.Model.{IsCell, AreCells};
 ghost use Rattle.dpx_files.specs.Channel.{channel_of, lanes_at, cell_of, flag_of, level_of, with_lanes};
 
 use crate::link_fields::rate_name;
@@ -11,7 +12,8 @@ use serde_json::Value;
 /// The lanes of a modelled channel; None where the value describes none.
 #[tactic(auto, unfolding(crate::specs::Channel::channel_of))]
 pub(crate) fn read_channel(value: &Value) -> Option<Channel>
-    ensures { result ≡ channel_of (view value.now) }
+    ensures value { result ≡ channel_of (view value.now) }
+    ensures cells { IfSome result (AreCells 16) }
 {
     if !value.is_object() {
         return None;
@@ -25,7 +27,8 @@ pub(crate) fn read_channel(value: &Value) -> Option<Channel>
 
 #[tactic(auto, unfolding(crate::specs::Channel::lanes_at))]
 fn read_lanes(channel: &Value, rate: Rate) -> Option<[Cell; 4]>
-    ensures { result ≡ lanes_at (view channel.now) rate }
+    ensures value { result ≡ lanes_at (view channel.now) rate }
+    ensures cells { IfSome result (AreCells 4) }
 {
     let Some(value) = channel.get(rate_name(rate)) else {
         return Some([Cell::new(true, true, 0, 0); 4]);
@@ -38,7 +41,8 @@ fn read_lanes(channel: &Value, rate: Rate) -> Option<[Cell; 4]>
 
 #[tactic(auto, unfolding(crate::specs::Channel::cell_of))]
 fn read_cell(value: &Value) -> Option<Cell>
-    ensures { result ≡ cell_of (view value.now) }
+    ensures value { result ≡ cell_of (view value.now) }
+    ensures cell { IfSome result IsCell }
 {
     match elements(value)? {
         [cr, eq, swing, emph] => Some(Cell::new(
@@ -73,7 +77,12 @@ fn read_level(value: &Value) -> Option<u8>
 
 /// A channel of the lanes at RBR, HBR, HBR2 and HBR3.
 fn channel_with(rbr: [Cell; 4], hbr: [Cell; 4], hbr2: [Cell; 4], hbr3: [Cell; 4]) -> Channel
-    ensures { result ≡ rbr ++ hbr ++ hbr2 ++ hbr3 }
+    requires rbr { AreCells 4 rbr }
+    requires hbr { AreCells 4 hbr }
+    requires hbr2 { AreCells 4 hbr2 }
+    requires hbr3 { AreCells 4 hbr3 }
+    ensures value { result ≡ rbr ++ hbr ++ hbr2 ++ hbr3 }
+    ensures cells { AreCells 16 result }
 {
     let mut channel = Channel::perfect();
     set_lanes(&mut channel, Rate::Rbr, rbr);

@@ -1,6 +1,7 @@
 ghost use Rattle.std.specs.Prelude.{◌≡◌, ◌<◌, ◌↔◌, true, length, None, IfOk, IsErr, IsErrOf};
 ghost use Rattle.serde_json.specs.View.{view};
-ghost use Rattle.dpx_files.specs.Job.{reading, job_of, sink_of, longest_job, link_asked};
+ghost use Rattle.dpx_dpcd.specs.Model.{IsPlan};
+ghost use Rattle.dpx_files.specs.Job.{reading, job_of, sink_of, longest_job, link_asked, plan_asked};
 ghost use Rattle.dpx_files.specs.Members.{json_of};
 ghost use Rattle.dpx_files.specs.Refusal.{GivesUnlessMemory, refused};
 
@@ -39,6 +40,7 @@ pub fn read_job(alloc: Global, bytes: &[u8], need: Need) -> Result<Job, JobBad>
     ensures too_long { IsErrOf result JobBad.TooLong ↔ (longest_job < length bytes.now) }
     ensures not_json { IsErrOf result JobBad.NotJson → json_of bytes.now ≡ None }
     ensures only_json { json_of bytes.now ≡ None → IsErr result }
+    ensures plan { IfOk result (λ job. IsPlan (plan_asked job)) }
     ensures enhanced { IfOk result (λ job. (link_asked job).enhanced ≡ true) }
 {
     if bytes.len() > LONGEST_JOB {
@@ -51,6 +53,7 @@ pub fn read_job(alloc: Global, bytes: &[u8], need: Need) -> Result<Job, JobBad>
 #[tactic(auto, unfolding(crate::specs::Job::job_of))]
 fn job_in(alloc: Global, value: &Value, need: Need) -> Result<Job, JobBad>
     ensures exact { GivesUnlessMemory (refused (job_of need (view value.now))) result }
+    ensures plan { IfOk result (λ job. IsPlan (plan_asked job)) }
     ensures enhanced { IfOk result (λ job. (link_asked job).enhanced ≡ true) }
 {
     match need {
@@ -65,7 +68,8 @@ fn job_in(alloc: Global, value: &Value, need: Need) -> Result<Job, JobBad>
 
 #[tactic(auto, unfolding(crate::specs::Job::sink_of))]
 fn read_sink(alloc: Global, root: &Value) -> Result<SinkPlan, JobBad>
-    ensures { GivesUnlessMemory (refused (sink_of (view root.now))) result }
+    ensures exact { GivesUnlessMemory (refused (sink_of (view root.now))) result }
+    ensures plan { IfOk result IsPlan }
 {
     let sink = object_in(Field::Sink, root.get("sink"))?;
     match (sink.get("script"), sink.get("model")) {

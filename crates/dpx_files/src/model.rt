@@ -1,5 +1,6 @@
-ghost use Rattle.std.specs.Prelude.{◌≡◌};
+ghost use Rattle.std.specs.Prelude.{◌≡◌, IfOk};
 ghost use Rattle.serde_json.specs.View.{view};
+ghost use Rattle.dpx_dpcd.specs.Model.{AreCells, IsPlan};
 ghost use Rattle.dpx_files.specs.Model.{model_of, caps_of, extended_of, defers_of, channel_in, block_of, byte_of};
 
 use crate::Field;
@@ -12,7 +13,8 @@ use serde_json::Value;
 /// A sink with registers.
 #[tactic(auto, unfolding(crate::specs::Model::model_of))]
 pub(crate) fn read_model(value: &Value) -> Result<SinkPlan, Field>
-    ensures { result ≡ model_of (view value.now) }
+    ensures value { result ≡ model_of (view value.now) }
+    ensures plan { IfOk result IsPlan }
 {
     let model = object_in(Field::Model, Some(value))?;
     let caps = read_caps(model)?;
@@ -50,7 +52,8 @@ fn read_defers(model: &Value) -> Result<u8, Field>
 }
 
 fn read_channel_of(model: &Value) -> Result<Channel, Field>
-    ensures { result ≡ channel_in (view model.now) }
+    ensures value { result ≡ channel_in (view model.now) }
+    ensures cells { IfOk result (AreCells 16) }
 {
     match model.get("channel") {
         Some(value) => read_channel(value).ok_or(Field::Channel),

@@ -10,6 +10,8 @@
 mod attempt;
 mod fallback;
 mod laws;
+#[cfg(test)]
+mod tests;
 mod train_end;
 mod training;
 

@@ -1,0 +1,12 @@
+pub mod Attempts
+pub mod Bits
+pub mod Deferred
+pub mod Drive
+pub mod Ends
+pub mod Falls
+pub mod Meets
+pub mod Parts
+pub mod Path
+pub mod Phases
+pub mod Ports
+pub mod Trainings

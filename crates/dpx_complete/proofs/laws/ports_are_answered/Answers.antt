@@ -1,0 +1,5 @@
+use Rattle.dpx_complete.proofs.Ports.{ports_are_answered}
+use Rattle.dpx_complete.proofs.laws.ports_are_answered.Goals as goal
+
+pub returns : goal.returns
+returns c = ports_are_answered
