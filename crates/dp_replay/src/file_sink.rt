@@ -90,3 +90,34 @@ impl Sink for FileSink {
         Ok(count)
     }
 }
+
+#[cfg(test)]
+mod tests {
+    use super::*;
+    use std::test::Fail;
+
+    #[test]
+    fn a_file_that_cannot_be_made_is_a_fault_at_each_write(rt: HostRuntime) -> Result<(), Fail> {
+        for mut out in [
+            FileSink::create(&rt, "no folder/report"),
+            FileSink::nothing(),
+        ] {
+            assert_eq!(rt; out.faults, 0);
+            assert!(rt; out.write(b"lane").is_err());
+            assert!(rt; out.write(b"lane").is_err());
+            assert_eq!(rt; out.faults, 2);
+        }
+        // a file that can be made takes what is written
+        let mut out = FileSink::create(&rt, "report");
+        assert_eq!(rt; out.write(b"lane 0")?, 6);
+        assert_eq!(rt; out.write(b" swing 1")?, 8);
+        assert_eq!(rt; out.faults, 0);
+        let text = fs::read_to_string(&rt, "report")?;
+        assert_eq!(rt; text.as_str(), "lane 0 swing 1");
+        // and is emptied where it is made again
+        let _again = FileSink::create(&rt, "report");
+        assert_eq!(rt; fs::read_to_string(&rt, "report")?.len(), 0);
+        fs::remove_file(&rt, "report")?;
+        Ok(())
+    }
+}

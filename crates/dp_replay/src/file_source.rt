@@ -68,3 +68,35 @@ impl Source for FileSource {
         Err(Failed)
     }
 }
+
+#[cfg(test)]
+mod tests {
+    use super::*;
+    use std::fs;
+    use std::test::Fail;
+
+    #[test]
+    fn a_file_that_is_not_there_is_a_fault_at_each_read(rt: HostRuntime) -> Result<(), Fail> {
+        let mut piece = [0; 10];
+        let mut src = FileSource::open(&rt, "no folder/link.json");
+        assert_eq!(rt; src.faults, 0);
+        assert!(rt; src.read(&mut piece).is_err());
+        assert!(rt; src.read(&mut piece).is_err());
+        assert_eq!(rt; src.faults, 2);
+        // a folder can be opened and not read
+        let mut src = FileSource::open(&rt, ".");
+        assert!(rt; src.read(&mut piece).is_err());
+        assert_eq!(rt; src.faults, 1);
+        // a file that is there is read to its end
+        fs::write(&rt, "link.json", "{\"link\":null}")?;
+        let mut src = FileSource::open(&rt, "link.json");
+        assert_eq!(rt; src.read(&mut piece)?, 10);
+        assert_eq!(rt; piece, *b"{\"link\":nu");
+        assert_eq!(rt; src.read(&mut piece)?, 3);
+        assert!(rt; piece.starts_with(b"ll}"));
+        assert_eq!(rt; src.read(&mut piece)?, 0);
+        assert_eq!(rt; src.faults, 0);
+        fs::remove_file(&rt, "link.json")?;
+        Ok(())
+    }
+}

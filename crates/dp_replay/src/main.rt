@@ -1,5 +1,5 @@
-//! A replay tool for the link layer of DisplayPort: trains a link against the sink that a job describes, and prints how
-//! that ended. `dpx_cli` has the commands; here are the files and the process.
+//! A replay tool for the link layer of DisplayPort: trains a link against the sink that a job
+//! describes, and prints how that ended. `dpx_cli` has the commands; here are the files.
 //!
 //! * `file_source`, `file_sink`: bytes from a file; bytes to a file or to standard output
 #![tactic(auto)]
@@ -46,8 +46,8 @@ fn run<R: Env + Files<File = File> + AllocGlobal>(
     Ok(replay(rt.alloc(), words.as_slice(), &mut src, &mut aux, out))
 }
 
-/// The words of the command line without the program's name. Where one is no text there are none: they have no reading
-/// either way.
+/// The words of the command line without the program's name. Where one is no text there are none:
+/// they have no reading either way.
 fn words<R: Env + AllocGlobal>(rt: &R) -> Result<Vec<String>, Memory> {
     match env::args(rt) {
         Ok(words) => words.skip(1).collect(rt.alloc()).map_err(|_| Memory),

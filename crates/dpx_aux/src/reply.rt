@@ -22,8 +22,8 @@ const NACK: u8 = 0x10;
 
 const DEFER: u8 = 0x20;
 
-/// What the bytes of a reply say to the request. That an acknowledged read brings exactly the bytes asked for is this
-/// project's own rule.
+/// What the bytes of a reply say to the request. That an acknowledged read brings exactly the bytes
+/// asked for is this project's own rule.
 pub fn read_reply(request: &Request, bytes: &[u8]) -> Reply
     requires { IsValid request.now }
     ensures { result ≡ reply_to request.now bytes.now }

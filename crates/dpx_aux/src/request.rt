@@ -8,8 +8,8 @@ use dpx_base::{BoundedBytes, Bytes20};
 /// The bytes that one request brings, or that its reply brings.
 pub type Data16 = BoundedBytes<16>;
 
-/// A native AUX request (VESA DisplayPort 1.4a, AUX transaction syntax). It is valid where it asks for or brings 1 to 16
-/// bytes that lie within the 20 bits of an address.
+/// A native AUX request (VESA DisplayPort 1.4a, AUX transaction syntax). It is valid where it asks for
+/// or brings 1 to 16 bytes that lie within the 20 bits of an address.
 #[derive(Drop)]
 pub enum Request {
     /// Asks for `length` bytes, from `address` on.
@@ -21,7 +21,8 @@ pub enum Request {
 /// Why bytes are those of no valid request.
 #[derive(Clone, Copy, Debug, PartialEq, Eq)]
 pub enum AuxBad {
-    /// So many bytes: fewer than four, or not the number that the length says, or the length is above sixteen.
+    /// So many bytes: fewer than four, or not the number that the length says, or the length is above
+    /// sixteen.
     BadLength(usize),
     /// The first byte has neither command.
     BadCommand(u8),
@@ -33,8 +34,8 @@ const WRITE: u8 = 8;
 
 const READ: u8 = 9;
 
-/// The bytes of the request on the AUX channel: command and address in three, the length less one, and what a write
-/// brings.
+/// The bytes of the request on the AUX channel: command and address in three, the length less one, and
+/// what a write brings.
 pub fn encode_request(request: &Request) -> Bytes20
     requires { IsValid request.now }
     ensures { result ≡ request_bytes request.now }
@@ -64,8 +65,8 @@ fn encode(command: u8, address: u32, count: u8, payload: &[u8]) -> Bytes20
     Bytes20::from_slice(bytes.as_slice())
 }
 
-/// The request that the bytes stand for. A refusal names the first fault: fewer than four bytes; the command; the length; the
-/// address.
+/// The request that the bytes stand for. A refusal names the first fault: fewer than four bytes; the
+/// command; the length; the address.
 pub fn read_request(bytes: &[u8]) -> Result<Request, AuxBad>
     ensures exact { result ≡ request_from bytes.now }
     ensures valid { IfOk result IsValid }

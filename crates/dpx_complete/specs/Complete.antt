@@ -10,7 +10,6 @@ use Rattle.dpx_aux.specs.Conversation.{Converses}
 use Rattle.dpx_dpcd.specs.declared.caps.Caps.{Caps}
 use Rattle.dpx_dpcd.specs.declared.caps.CapsBad.{CapsBad}
 use Rattle.dpx_dpcd.specs.declared.plan.SinkPlan.{SinkPlan}
-use Rattle.dpx_dpcd.specs.declared.plan.SinkPlan.{SinkPlan}
 use Rattle.dpx_dpcd.specs.declared.plan.SinkPlan.TheVariants.{Script, Model}
 use Rattle.dpx_dpcd.specs.Caps.{says_extended, caps_from, start_of}
 use Rattle.dpx_dpcd.specs.Cell.{CellFacts}
@@ -44,7 +43,8 @@ EndsDeferred (AuxEnded why requests) = why ≡ Spent 0x00000 Defer
 EndsDeferred end = ⊥
 
 -- a training of the top configuration that a modelled sink answered, loaded with this plan and not asked before
-pub record AnsweredTraining (top : Link) (caps extended : List ℕ) (defers : ℕ) (channel : List CellFacts) (end : TrainEnd) (history : List Entry) : Type 0 where
+pub record AnsweredTraining (top : Link) (caps extended : List ℕ) (defers : ℕ) (channel : List CellFacts)
+    (end : TrainEnd) (history : List Entry) : Type 0 where
   pub model : IsModel caps extended channel
   pub training : Training top end history
   pub answered : answers_of history ≡ planned (Model caps extended defers channel) (requests_of history)
@@ -52,15 +52,18 @@ pub record AnsweredTraining (top : Link) (caps extended : List ℕ) (defers : �
 -- where the sink defers at most seven times, every such training ends as the plan says
 abbrev pub TrainingIsComplete : Type 0
 TrainingIsComplete =
-    (top : Link) (caps extended : List ℕ) (defers : ℕ) (channel : List CellFacts) (end : TrainEnd) (history : List Entry) → AnsweredTraining top caps extended defers channel end history → defers ≤ 7 → EndsByPlan channel top (caps_from (in_force caps extended)) end
+    (top : Link) (caps extended : List ℕ) (defers : ℕ) (channel : List CellFacts) (end : TrainEnd) (history : List Entry)
+    → AnsweredTraining top caps extended defers channel end history → defers ≤ 7 → EndsByPlan channel top (caps_from (in_force caps extended)) end
 
 -- where it defers eight times or more, no training gets past its first request
 abbrev pub DeferralEndsTraining : Type 0
 DeferralEndsTraining =
-    (top : Link) (caps extended : List ℕ) (defers : ℕ) (channel : List CellFacts) (end : TrainEnd) (history : List Entry) → AnsweredTraining top caps extended defers channel end history → 8 ≤ defers → EndsDeferred end
+    (top : Link) (caps extended : List ℕ) (defers : ℕ) (channel : List CellFacts) (end : TrainEnd) (history : List Entry)
+    → AnsweredTraining top caps extended defers channel end history → 8 ≤ defers → EndsDeferred end
 
 -- a port that was loaded with this plan, was trained to this end, and still tells its history and its plan
-pub record TrainedPort (top : Link) (caps extended : List ℕ) (defers : ℕ) (channel : List CellFacts) (end : TrainEnd) (before now : PortState SinkPlan) : Type 0 where
+pub record TrainedPort (top : Link) (caps extended : List ℕ) (defers : ℕ) (channel : List CellFacts)
+    (end : TrainEnd) (before now : PortState SinkPlan) : Type 0 where
   pub model : IsModel caps extended channel
   pub loaded : IsLoaded (Model caps extended defers channel) before
   pub training : Converses (Training top) before now end
@@ -71,9 +74,11 @@ pub record TrainedPort (top : Link) (caps extended : List ℕ) (defers : ℕ) (c
 -- every such port's training is one that the loaded sink answered
 abbrev pub PortsAreAnswered : Type 0
 PortsAreAnswered =
-    (top : Link) (caps extended : List ℕ) (defers : ℕ) (channel : List CellFacts) (end : TrainEnd) (before now : PortState SinkPlan) → TrainedPort top caps extended defers channel end before now → IfSome now.history (AnsweredTraining top caps extended defers channel end)
+    (top : Link) (caps extended : List ℕ) (defers : ℕ) (channel : List CellFacts) (end : TrainEnd) (before now : PortState SinkPlan)
+    → TrainedPort top caps extended defers channel end before now → IfSome now.history (AnsweredTraining top caps extended defers channel end)
 
 -- how a training ends that a plan answered: a script leaves it open
 abbrev pub EndsAsPlanned : SinkPlan → Link → TrainEnd → Type 0
 EndsAsPlanned (Script answers) top end = ⊤
-EndsAsPlanned (Model caps extended defers channel) top end = (defers ≤ 7 → EndsByPlan channel top (caps_from (in_force caps extended)) end) × (8 ≤ defers → EndsDeferred end)
+EndsAsPlanned (Model caps extended defers channel) top end =
+    (defers ≤ 7 → EndsByPlan channel top (caps_from (in_force caps extended)) end) × (8 ≤ defers → EndsDeferred end)

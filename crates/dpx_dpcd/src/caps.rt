@@ -4,14 +4,20 @@ ghost use Rattle.dpx_dpcd.specs.Caps.{caps_from, start_of, pattern_for, says_ext
 use crate::Pattern;
 use dpx_base::{Lanes, Link, Rate};
 
-/// What a sink can do, read from a block of sixteen capability registers.
+/// What a sink can do, read from a block of sixteen capability registers (VESA DisplayPort 1.4a, DPCD
+/// 00000 to 0000F).
 #[derive(Clone, Copy, Debug, PartialEq, Eq)]
 pub struct Caps {
+    /// The greatest rate whose code is not above byte 1.
     pub rate: Rate,
+    /// Bits 4:0 of byte 2.
     pub lanes: Lanes,
+    /// The sink knows the pattern TPS3: bit 6 of byte 2.
     pub tps3: bool,
+    /// The sink knows the pattern TPS4: bit 7 of byte 3.
     pub tps4: bool,
-    /// The read interval: 0, or so many times 4 ms; at most 127.
+    /// How long to wait before a status of equalisation is read, bits 6:0 of byte 0E: so many times 4
+    /// ms, or 0 for the least wait; at most 127.
     pub interval: u8,
 }
 
@@ -34,7 +40,8 @@ pub fn has_extended(bytes: &[u8; 16]) -> bool
 }
 
 impl Caps {
-    /// Reads a block; the refusals come in the order of `CapsBad`.
+    /// Reads a block. The first refusal in the order of `CapsBad` is given, which is this project's own
+    /// order.
     pub fn read(bytes: &[u8; 16]) -> Result<Caps, CapsBad>
         ensures value { result ≡ caps_from bytes.now }
         ensures interval { IfOk result (λ caps. caps.interval ≤ 127) }
@@ -76,7 +83,8 @@ impl Caps {
         }
     }
 
-    /// The pattern for equalisation: the highest one that the sink knows.
+    /// The pattern for equalisation: the highest one that the sink knows, which is this project's own
+    /// choice.
     pub fn pattern(&self) -> Pattern
         ensures { result ≡ pattern_for self.now }
     {

@@ -27,8 +27,8 @@ impl Model for Cell {
 }
 
 impl Cell {
-    /// `cr` and `eq`: whether the lane recovers its clock and equalises, driven as it asks: with this swing and this
-    /// pre-emphasis, each at most 3.
+    /// `cr` and `eq`: whether the lane recovers its clock and equalises, driven as it asks: with this
+    /// swing and this pre-emphasis, each at most 3.
     pub fn new(cr: bool, eq: bool, swing: u8, emph: u8) -> Cell
         requires swing { swing ≤ 3 }
         requires emph { emph ≤ 3 }
@@ -42,18 +42,21 @@ impl Cell {
         }
     }
 
+    /// The lane recovers its clock where it is driven as it asks.
     pub fn cr(&self) -> bool
         ensures { result ≡ self.now.cr }
     {
         self.cr
     }
 
+    /// The lane equalises where it has recovered its clock.
     pub fn eq(&self) -> bool
         ensures { result ≡ self.now.eq }
     {
         self.eq
     }
 
+    /// The voltage swing that the lane asks for, 0 to 3.
     pub fn swing(&self) -> u8
         ensures value { result ≡ self.now.swing }
         ensures bound { result ≤ 3 }
@@ -61,6 +64,7 @@ impl Cell {
         self.swing
     }
 
+    /// The pre-emphasis that the lane asks for, 0 to 3.
     pub fn emph(&self) -> u8
         ensures value { result ≡ self.now.emph }
         ensures bound { result ≤ 3 }
@@ -94,6 +98,7 @@ impl Channel {
         }
     }
 
+    /// How a lane, 0 to 3, behaves at the rate.
     pub fn cell(&self, rate: Rate, lane: u8) -> Cell
         requires { lane < 4 }
         ensures { result ≡ cell_at self.now rate lane }
@@ -101,6 +106,7 @@ impl Channel {
         self.cells[place(rate, lane)]
     }
 
+    /// Lets a lane, 0 to 3, behave so at the rate.
     pub fn set(&mut self, rate: Rate, lane: u8, cell: Cell)
         requires { lane < 4 }
         ensures { self.new ≡ slice_set self.old (place_of rate lane) cell }

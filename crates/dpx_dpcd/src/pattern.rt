@@ -1,7 +1,8 @@
 ghost use Rattle.std.specs.Prelude.{◌≡◌};
 ghost use Rattle.dpx_dpcd.specs.Pattern.{register_of};
 
-/// A training pattern.
+/// A training pattern (VESA DisplayPort 1.4a, TRAINING_PATTERN_SET). Recovery sends TPS1, equalisation
+/// another one.
 #[derive(Clone, Copy, Debug, PartialEq, Eq)]
 pub enum Pattern {
     Tps1,
@@ -11,7 +12,8 @@ pub enum Pattern {
 }
 
 impl Pattern {
-    /// What selects the pattern in register 00102: its number in bits 3:0, and bit 5, scrambling off, but for TPS4.
+    /// What selects the pattern in register 00102: its number in bits 3:0, and bit 5, scrambling off,
+    /// but for TPS4.
     pub fn register(self) -> u8
         ensures { result ≡ register_of self }
     {

@@ -20,12 +20,14 @@ impl Model for AnswerList {
 }
 
 impl AnswerList {
+    /// Takes the answers, first to last.
     pub fn from_vec(answers: Vec<Answer>) -> AnswerList
         ensures { result ≡ answers.items }
     {
         AnswerList { answers }
     }
 
+    /// The answers, first to last.
     pub fn as_slice(&self) -> &[Answer]
         ensures { result.now ≡ self.now }
     {
@@ -38,8 +40,8 @@ impl AnswerList {
 pub enum SinkPlan {
     /// The answers in order, then silence.
     Script(AnswerList),
-    /// A sink with registers: its capabilities and their extended field, how often it defers before it answers, and
-    /// its channel.
+    /// A sink with registers: its capabilities and their extended field, how often it defers before it
+    /// answers, and its channel.
     Model {
         caps: [u8; 16],
         extended: [u8; 16],

@@ -8,7 +8,8 @@ use crate::Channel;
 use dpx_aux::{Data16, Reply, Request};
 use dpx_base::{Lanes, Rate};
 
-/// The registers of a modelled sink. They start at 00; reads show its capabilities and its status beside them.
+/// The registers of a modelled sink. They start at 00; reads show its capabilities and its status
+/// beside them.
 #[derive(Drop)]
 pub struct RegFile {
     caps: [u8; 16],
@@ -21,6 +22,7 @@ pub struct RegFile {
 }
 
 impl RegFile {
+    /// Registers of a sink with these capabilities, at 00000 and at 02200, and this channel.
     #[tactic(auto, unfolding(crate::specs::RegFile::registers_of))]
     pub fn new(caps: [u8; 16], extended: [u8; 16], channel: Channel) -> RegFile
         ensures facts { facts_of result ≡ record { caps = caps; extended = extended; channel = channel } }
@@ -35,7 +37,8 @@ impl RegFile {
         }
     }
 
-    /// Carries out the request, and acknowledges it.
+    /// Carries out the request, and acknowledges it. What is written elsewhere than at 00100 to 00108
+    /// and at 00600 is ignored; 00 is read where neither capabilities, status nor writes have a byte.
     pub fn answer(&mut self, request: &Request) -> Reply
         requires { IsValid request.now }
         ensures reply { result ≡ Reply.Ack (brought (facts_of self.old) (registers_of self.old) request.now) }
@@ -236,7 +239,8 @@ mod tests {
         0x14, 0x1e, 0xc4, 0x80, 0, 0, 0, 0, 0, 0, 0, 0, 0, 0, 0x81, 0xef,
     ];
 
-    /// Asks for the requests in their order. Each acknowledgement has to bring what stands beside its request.
+    /// Asks for the requests in their order. Each acknowledgement has to bring what stands beside its
+    /// request.
     fn compare(rt: &impl Abort, file: &mut RegFile, steps: &[(&[u8], &[u8])]) -> Result<(), Fail> {
         for (number, (bytes, brings)) in steps.iter().enumerate() {
             let request = read_request(bytes)?;

@@ -6,7 +6,7 @@ use crate::Status6;
 use dpx_aux::{AuxEnd, Data16, Request, transact};
 use dpx_base::AuxPort;
 
-/// Writes registers from `address` on, in one transaction.
+/// Writes 1 to 16 registers from `address` on, in one transaction, which asks at most eight times.
 pub fn write_registers<P: AuxPort>(port: &mut P, address: u32, bytes: &[u8]) -> Result<(), AuxEnd>
     requires some { 1 ≤ length bytes.now }
     requires few { length bytes.now ≤ 16 }
@@ -25,7 +25,7 @@ pub fn write_registers<P: AuxPort>(port: &mut P, address: u32, bytes: &[u8]) -> 
     Ok(())
 }
 
-/// Reads the sixteen registers from `address` on, in one transaction.
+/// Reads the sixteen registers from `address` on, in one transaction, which asks at most eight times.
 pub fn read_block<P: AuxPort>(port: &mut P, address: u32) -> Result<[u8; 16], AuxEnd>
     requires within { address + 16 ≤ 2 ^ 20 }
     requires countable { (P.state port.old).asked + 8 < 2 ^ 64 }
@@ -44,7 +44,7 @@ pub fn read_block<P: AuxPort>(port: &mut P, address: u32) -> Result<[u8; 16], Au
     Ok(bytes)
 }
 
-/// Reads the status, registers 00202 to 00207, in one transaction.
+/// Reads the status, registers 00202 to 00207, in one transaction, which asks at most eight times.
 pub fn read_status<P: AuxPort>(port: &mut P) -> Result<Status6, AuxEnd>
     requires { (P.state port.old).asked + 8 < 2 ^ 64 }
     ensures reads { Converses ReadsStatus (P.state port.old) (P.state port.new) result }

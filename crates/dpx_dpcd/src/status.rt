@@ -4,8 +4,9 @@ ghost use Rattle.dpx_dpcd.specs.Status.{nibble, cr_done, eq_done, level_of, lane
 
 use dpx_base::Lanes;
 
-/// Registers 00103 to 00106, a byte a lane: swing in bits 1:0, its maximum reached in bit 2, pre-emphasis in bits
-/// 4:3, its maximum reached in bit 5. A lane that is not in use has 00.
+/// Registers 00103 to 00106, the drive of the lanes, a byte a lane: swing in bits 1:0, its maximum
+/// reached in bit 2, pre-emphasis in bits 4:3, its maximum reached in bit 5. A lane that is not in use
+/// has 00.
 #[derive(Clone, Copy, Debug, PartialEq, Eq)]
 pub struct Drive {
     pub registers: [u8; 4],
@@ -24,7 +25,8 @@ const CR: u8 = 1;
 const CR_EQ_LOCK: u8 = 7;
 
 impl Status6 {
-    /// Whether every lane in use has recovered its clock.
+    /// Whether every lane in use has recovered its clock (VESA DisplayPort 1.4a, LANE0_1_STATUS and
+    /// LANE2_3_STATUS).
     #[tactic(auto, unfolding(crate::specs::Status::cr_done))]
     pub fn cr_done(&self, lanes: Lanes) -> bool
         ensures { result ≡ cr_done lanes self.now.bytes }
@@ -32,7 +34,8 @@ impl Status6 {
         self.every_lane_has(lanes, CR)
     }
 
-    /// Whether every lane in use is equalised and locked to its symbols, and the lanes are aligned.
+    /// Whether every lane in use has recovered its clock, is equalised and locked to its symbols, and
+    /// the lanes are aligned (bit 0 of register 00204).
     #[tactic(auto, unfolding(crate::specs::Status::eq_done))]
     pub fn eq_done(&self, lanes: Lanes) -> bool
         ensures { result ≡ eq_done lanes self.now.bytes }
@@ -40,7 +43,8 @@ impl Status6 {
         self.every_lane_has(lanes, CR_EQ_LOCK) && self.bytes[2] % 2 == 1
     }
 
-    /// The drive that the lanes in use ask for.
+    /// The drive that the lanes in use ask for in registers 00206 and 00207. That swing goes before
+    /// pre-emphasis, where they exceed 3 in sum, is this project's own choice.
     #[tactic(auto, unfolding(crate::specs::Status::level_of))]
     pub fn level(&self, lanes: Lanes) -> Drive
         ensures { result.registers ≡ level_of lanes self.now.bytes }

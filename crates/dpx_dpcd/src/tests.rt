@@ -1,4 +1,4 @@
-ghost use Rattle.std.specs.Prelude.{◌≡◌};
+ghost use Rattle.std.specs.Prelude.{◌≡◌, ◌<◌};
 
 use crate::{
     AnswerList, Caps, CapsBad, Cell, Channel, Pattern, Status6, has_extended, read_block,
@@ -179,26 +179,27 @@ fn drive_is_what_the_lanes_in_use_ask_for(rt: HostRuntime) {
     }
 }
 
+fn behaves(rt: &impl Abort, channel: &Channel, rate: Rate, lane: u8, cell: Cell)
+    requires { lane < 4 }
+{
+    assert_eq!(rt; channel.cell(rate, lane), cell, "{rate:?} {lane}");
+}
+
 #[test]
 fn each_rate_and_lane_has_a_cell_of_its_own(rt: HostRuntime) {
-    let mut channel = Channel::perfect();
-    channel.set(Rate::Hbr2, 3, Cell::new(true, false, 2, 3));
-    channel.set(Rate::Hbr3, 0, Cell::new(false, true, 1, 0));
-    let cell = channel.cell(Rate::Hbr2, 3);
-    let fields = (cell.cr(), cell.eq(), cell.swing(), cell.emph());
-    assert_eq!(rt; fields, (true, false, 2, 3));
-    assert_eq!(rt; channel.cell(Rate::Hbr3, 0), Cell::new(false, true, 1, 0));
     let good = Cell::new(true, true, 0, 0);
-    for rate in [Rate::Rbr, Rate::Hbr] {
-        assert_eq!(rt;
-            (channel.cell(rate, 0), channel.cell(rate, 3)),
-            (good, good)
-        );
-    }
+    let slow = Cell::new(true, false, 2, 3);
     assert_eq!(rt;
-        (channel.cell(Rate::Hbr2, 0), channel.cell(Rate::Hbr3, 3)),
-        (good, good)
+        (slow.cr(), slow.eq(), slow.swing(), slow.emph()),
+        (true, false, 2, 3)
     );
+    let mut channel = Channel::perfect();
+    channel.set(Rate::Hbr2, 3, slow);
+    behaves(&rt, &channel, Rate::Hbr2, 3, slow);
+    behaves(&rt, &channel, Rate::Hbr2, 2, good);
+    behaves(&rt, &channel, Rate::Hbr3, 0, good);
+    behaves(&rt, &channel, Rate::Hbr, 3, good);
+    behaves(&rt, &channel, Rate::Rbr, 3, good);
 }
 
 #[test]

@@ -1,11 +1,9 @@
 -- How many transactions a training has at most.
 use Rattle.std.proofs.Common.{◌≡◌, ℕ, suc, zero, ◌+◌, ◌*◌, ◌<◌, ◌≤◌, Bool, true, false, List, [], ◌∷◌, ◌++◌, length, refl, sym, ap, ◌∙◌, subst, arith, append_assoc, length-append, Option, Some, None, Result, Ok, Err, MatchResult}
-use Rattle.std.specs.Prelude.{⊤}
 use Rattle.std.proofs.lemmas.List.{append-nil}
 use Rattle.dpx_base.specs.declared.aux_port.Answer.{Answer}
 use Rattle.dpx_base.specs.declared.aux_port.Entry.{Entry}
 use Rattle.dpx_base.specs.declared.aux_port.Entry.TheVariants.{Asked, Waited}
-use Rattle.dpx_base.specs.declared.lanes.Lanes.{Lanes}
 use Rattle.dpx_base.specs.declared.link.Link.{Link}
 use Rattle.dpx_base.specs.Port.{asks}
 use Rattle.dpx_base.proofs.Port.{asks-append}
@@ -20,19 +18,16 @@ use Rattle.dpx_dpcd.specs.declared.status.Drive.{Drive}
 use Rattle.dpx_dpcd.specs.declared.status.Status6.{Status6}
 use Rattle.dpx_dpcd.specs.Caps.{says_extended, caps_from, start_of}
 use Rattle.dpx_dpcd.specs.Registers.{ReadsBlock, Writes}
-use Rattle.dpx_dpcd.specs.Status.{level_of}
 use Rattle.dpx_phase.specs.declared.phase_end.PhaseEnd.{PhaseEnd}
 use Rattle.dpx_phase.specs.declared.phase_end.PhaseEnd.TheVariants.{Done, Failed, Lost, Aux}
-use Rattle.dpx_phase.specs.Endings.{recovery_ends, equalisation_ends, EndsNothing}
-use Rattle.dpx_phase.specs.Phases.{Phase, ReadsLater, Adjusts, Round, Rounds, Joins, Concludes, LastRound, Follows, Runs, Takes, recovery, equalisation, Recovery, Equalisation}
+use Rattle.dpx_phase.specs.Phases.{Phase, ReadsLater, Round, Rounds, Concludes, Follows, Takes, Recovery, Equalisation}
 use Rattle.dpx_phase.proofs.Least.{tenth_ends, fifth_ends}
-use Rattle.dpx_link.specs.declared.attempt.AttemptEnd.{AttemptEnd}
 use Rattle.dpx_link.specs.declared.fallback.Next.{Next}
 use Rattle.dpx_link.specs.declared.fallback.Next.TheVariants.{Try, Stop}
 use Rattle.dpx_link.specs.declared.train_end.Verdict.{Verdict}
 use Rattle.dpx_link.specs.Attempt.{Attempt, Configures, Phases, AfterRecovery, Equalises}
 use Rattle.dpx_link.specs.Fallback.{next_of}
-use Rattle.dpx_link.specs.Laws.{OnlyWaits, TransactsThen, MadeOf, MadeOfAtMost, HistoriesAre}
+use Rattle.dpx_link.specs.Laws.{OnlyWaits, MadeOf, MadeOfAtMost, HistoriesAre}
 use Rattle.dpx_link.specs.Training.{Capabilities, Capable, Never, Attempts, AfterAttempt, TrainsWith, Trains, Training, attempts_at_most}
 
 waits-append : (xs ys : List Entry) → OnlyWaits xs → OnlyWaits ys → OnlyWaits (xs ++ ys)

@@ -1,13 +1,13 @@
 -- For given answers a training has one history, and one end.
 use Rattle.std.proofs.lemmas.List.{append_cancel_left}
-use Rattle.std.proofs.Common.{◌≡◌, ℕ, suc, zero, ◌+◌, Bool, List, [], ◌∷◌, ◌++◌, refl, sym, ap, ◌∙◌, subst, append_assoc, Result, Ok, Err}
+use Rattle.std.proofs.Common.{◌≡◌, ℕ, suc, zero, List, ◌++◌, sym, ap, ◌∙◌, subst, append_assoc, Result, Ok, Err}
 use Rattle.dpx_base.specs.declared.aux_port.Answer.{Answer}
 use Rattle.dpx_base.specs.declared.aux_port.Entry.{Entry}
 use Rattle.dpx_base.specs.declared.link.Link.{Link}
 use Rattle.dpx_base.specs.Port.{asks, answers_of}
 use Rattle.dpx_base.proofs.Port.{answers_of-append}
 use Rattle.dpx_aux.specs.declared.transaction.AuxEnd.{AuxEnd}
-use Rattle.dpx_aux.specs.Conversation.{Ends, ◌>>=◌, Choice, IsDecided}
+use Rattle.dpx_aux.specs.Conversation.{IsDecided}
 use Rattle.dpx_aux.proofs.Decided.{ends_decided, choice_decided, then_decided, transaction_decided}
 use Rattle.dpx_dpcd.specs.declared.caps.Caps.{Caps}
 use Rattle.dpx_dpcd.specs.declared.caps.CapsBad.{CapsBad}
@@ -20,7 +20,6 @@ use Rattle.dpx_phase.specs.declared.phase_end.PhaseEnd.TheVariants.{Done, Failed
 use Rattle.dpx_phase.specs.Phases.{Recovery, Equalisation}
 use Rattle.dpx_phase.proofs.Endings.{recovery_looks_back, equalisation_looks_back}
 use Rattle.dpx_phase.proofs.Decided.{takes_decided}
-use Rattle.dpx_link.specs.declared.attempt.AttemptEnd.{AttemptEnd}
 use Rattle.dpx_link.specs.declared.fallback.Next.{Next}
 use Rattle.dpx_link.specs.declared.fallback.Next.TheVariants.{Try, Stop}
 use Rattle.dpx_link.specs.declared.train_end.Verdict.{Verdict}

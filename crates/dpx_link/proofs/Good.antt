@@ -1,5 +1,5 @@
 -- Trained only with a last status that shows every lane in use done.
-use Rattle.std.proofs.Common.{◌≡◌, ℕ, suc, zero, Bool, true, List, [], ◌∷◌, ◌++◌, refl, sym, ap, subst, Option, Some, None, Result, Ok, Err, MatchResult}
+use Rattle.std.proofs.Common.{◌≡◌, ℕ, suc, zero, List, [], ◌∷◌, sym, subst, Option, Some, None, Result, Ok, Err, MatchResult}
 use Rattle.std.specs.Prelude.{⊤, IfOk}
 use Rattle.dpx_base.specs.declared.aux_port.Entry.{Entry}
 use Rattle.dpx_base.specs.declared.link.Link.{Link}
@@ -24,7 +24,6 @@ use Rattle.dpx_link.specs.declared.fallback.Next.{Next}
 use Rattle.dpx_link.specs.declared.fallback.Next.TheVariants.{Try, Stop}
 use Rattle.dpx_link.specs.declared.train_end.Verdict.{Verdict}
 use Rattle.dpx_link.specs.declared.train_end.Verdict.TheVariants as verdict
-use Rattle.dpx_link.specs.declared.train_end.TrainEnd.{TrainEnd}
 use Rattle.dpx_link.specs.Attempt.{Attempt, Phases, AfterRecovery, Equalises, equalised, IsGoodEnd}
 use Rattle.dpx_link.specs.Fallback.{next_of, falls_back}
 use Rattle.dpx_link.specs.Laws.{ResultsAre}

@@ -1,6 +1,5 @@
 -- The attempts of a training, one after another.
-use Rattle.std.proofs.Common.{◌≡◌, ℕ, suc, zero, ◌+◌, ◌-◌, ◌*◌, ◌<◌, ◌≤◌, List, refl, sym, ap, ◌∙◌, subst, arith, Result, Ok, Err}
-use Rattle.dpx_base.specs.declared.aux_port.Entry.{Entry}
+use Rattle.std.proofs.Common.{◌≡◌, ℕ, suc, ◌+◌, ◌*◌, ◌<◌, ◌≤◌, sym, subst, arith, Result, Ok, Err}
 use Rattle.dpx_base.specs.declared.rate.Rate.{Rate}
 use Rattle.dpx_base.specs.declared.rate.Rate.TheVariants.{Rbr, Hbr, Hbr2, Hbr3}
 use Rattle.dpx_base.specs.declared.lanes.Lanes.{Lanes}
@@ -12,7 +11,6 @@ use Rattle.dpx_aux.specs.Conversation.{Converses}
 use Rattle.dpx_aux.proofs.Parts.{then_ok, then_err, ends}
 use Rattle.dpx_dpcd.specs.declared.caps.Caps.{Caps}
 use Rattle.dpx_link.specs.declared.attempt.AttemptEnd.{AttemptEnd}
-use Rattle.dpx_link.specs.declared.fallback.Next.{Next}
 use Rattle.dpx_link.specs.declared.fallback.Next.TheVariants.{Try, Stop}
 use Rattle.dpx_link.specs.declared.train_end.Verdict.{Verdict}
 use Rattle.dpx_link.specs.Attempt.{Attempt}
