@@ -4,6 +4,9 @@
 //! * `file_source`, `file_sink`: bytes from a file; bytes to a file or to standard output
 #![tactic(auto)]
 
+ghost use Rattle.std.specs.Prelude.{IfOk};
+ghost use Rattle.dpx_cli.specs.Replay.{IsStatus};
+
 mod file_sink;
 mod file_source;
 #[cfg(test)]
@@ -32,10 +35,9 @@ fn main(rt: HostRuntime) -> ExitCode {
 }
 
 /// Opens the files that the words name, and gives the command's status.
-fn run<R: Env + Files<File = File> + AllocGlobal>(
-    rt: &R,
-    out: &mut FileSink,
-) -> Result<u8, Memory> {
+fn run<R: Env + Files<File = File> + AllocGlobal>(rt: &R, out: &mut FileSink) -> Result<u8, Memory>
+    ensures { IfOk result IsStatus }
+{
     let words = words(rt)?;
     let mut aux = PlanPort::new(rt.alloc())?;
     let mut src = match read_words(rt.alloc(), words.as_slice()) {

@@ -1,5 +1,5 @@
 -- What follows from what a call does, status by status.
-use Rattle.std.proofs.Common.{◌≡◌, ◌⊎◌, ℕ, List, refl, sym, ap, ◌∙◌, subst, arith, inl, inr, Result, Ok, Err, Option, Some, None}
+use Rattle.std.proofs.Common.{◌≡◌, ◌⊎◌, ℕ, List, refl, subst, arith, inl, inr, Result, Err, Option, Some, None}
 use Rattle.std.specs.Prelude.{IsSome, IsSomeAnd, IsOk}
 use Rattle.std.specs.Io.KnownBytes.{Appends}
 use Rattle.dpx_base.specs.Port.{PortState}
@@ -14,7 +14,7 @@ use Rattle.dpx_cli.specs.declared.outcome.Outcome.TheVariants.{Usage, NoJob, Rea
 use Rattle.dpx_cli.specs.declared.outcome.Outcome.TheVariants as outcome
 use Rattle.dpx_cli.specs.Outcome.{report_of, status_of, usage_line, train_status, job_status}
 use Rattle.dpx_cli.specs.Words.{command_of}
-use Rattle.dpx_cli.specs.Replay.{Does, Caused, Reported, IsClean, Ended, Refused, SaysEnded, IsJob, TrainedAs, RefusedAs}
+use Rattle.dpx_cli.specs.Replay.{Does, Caused, Reported, IsClean, Ended, Refused, SaysEnded, IsJob, RefusedAs}
 
 train_statuses : (end : TrainEnd) → SaysEnded (train_status end)
 train_statuses (Trained link drive last requests) = inl refl

@@ -1,7 +1,6 @@
 -- The lines of a training's report: this project's own. Each ends with one line feed.
 use Rattle.std.specs.Prelude.{ℕ, zero, suc, ◌/◌, ◌%◌, List, [], ◌∷◌, ◌++◌, codes, slice_index}
 use Rattle.std.specs.Fmt.{decimal}
-use Rattle.dpx_base.specs.declared.lanes.Lanes.{Lanes}
 use Rattle.dpx_base.specs.declared.link.Link.{Link}
 use Rattle.dpx_base.specs.Lanes.{count_of}
 use Rattle.dpx_aux.specs.declared.transaction.AuxEnd.{AuxEnd}
@@ -10,8 +9,6 @@ use Rattle.dpx_aux.specs.declared.transaction.LastAnswer.{LastAnswer}
 use Rattle.dpx_aux.specs.declared.transaction.LastAnswer.TheVariants.{Defer, Malformed, Silent}
 use Rattle.dpx_dpcd.specs.declared.caps.CapsBad.{CapsBad}
 use Rattle.dpx_dpcd.specs.declared.caps.CapsBad.TheVariants.{BadLanes, NoEnhanced, BadRate}
-use Rattle.dpx_dpcd.specs.declared.status.Drive.{Drive}
-use Rattle.dpx_dpcd.specs.declared.status.Status6.{Status6}
 use Rattle.dpx_files.specs.LinkFields.{rate_name}
 use Rattle.dpx_link.specs.declared.train_end.TrainEnd.{TrainEnd}
 use Rattle.dpx_link.specs.declared.train_end.TrainEnd.TheVariants.{Trained, NotTrained, CapsRefused, AuxEnded}

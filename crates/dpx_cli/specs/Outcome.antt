@@ -1,26 +1,13 @@
 -- What a command comes to, how that is reported, and what its cause is: this project's own.
-use Rattle.std.specs.Prelude.{◌≡◌, ◌⊎◌, ℕ, ◌≤◌, List, ◌++◌, codes, Option, Some, None, IsSome, IfSome, Result, Ok, Err, ⊤}
-use Rattle.std.specs.Io.KnownBytes.{Appends, IsAtEnd}
-use Rattle.dpx_base.specs.declared.aux_port.Entry.{Entry}
-use Rattle.dpx_base.specs.declared.link.Link.{Link}
-use Rattle.dpx_base.specs.Faults.{Rose}
-use Rattle.dpx_base.specs.Port.{PortState, asks}
-use Rattle.dpx_dpcd.specs.declared.plan.SinkPlan.{SinkPlan}
-use Rattle.dpx_files.specs.declared.job.Job.TheVariants as job
-use Rattle.dpx_files.specs.declared.job.Need.TheVariants as need
-use Rattle.dpx_files.specs.declared.refusal.Field.{Field}
+use Rattle.std.specs.Prelude.{ℕ, List, ◌++◌, codes}
 use Rattle.dpx_files.specs.declared.refusal.JobBad.{JobBad}
 use Rattle.dpx_files.specs.declared.refusal.JobBad.TheVariants.{TooLong, NotJson, Wrong, Memory}
-use Rattle.dpx_files.specs.Job.{reading}
 use Rattle.dpx_files.specs.Refusal.{name_of}
 use Rattle.dpx_link.specs.declared.train_end.TrainEnd.{TrainEnd}
 use Rattle.dpx_link.specs.declared.train_end.TrainEnd.TheVariants.{Trained, NotTrained, CapsRefused, AuxEnded}
-use Rattle.dpx_link.specs.Training.{Training, IsGood}
 use Rattle.dpx_cli.specs.declared.outcome.Outcome.{Outcome}
 use Rattle.dpx_cli.specs.declared.outcome.Outcome.TheVariants as outcome
 use Rattle.dpx_cli.specs.Lines.{line_feed, train_report}
-use Rattle.dpx_cli.specs.Transfer.{AppendsFront}
-use Rattle.dpx_cli.specs.Words.{command_of}
 
 abbrev pub usage_line : List ℕ
 usage_line =

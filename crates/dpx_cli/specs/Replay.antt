@@ -1,7 +1,7 @@
 -- What the top call does, by its outcome: this project's own. Throughout, `left_before` and `left_now` are the bytes that
 -- the source had left before the call and has after it, where it tells them; `taken_before` and `taken_now` those that the
 -- sink of the report took; `sink` is what the AUX port tells after the call.
-use Rattle.std.specs.Prelude.{◌≡◌, ◌≢◌, ◌⊎◌, ℕ, ◌+◌, ◌≤◌, List, length, Option, Some, None, IsSome, IfSome, IsOk, IsErr, Result, Ok, Err, MatchResult, ⊤}
+use Rattle.std.specs.Prelude.{◌≡◌, ◌≢◌, ◌⊎◌, ℕ, ◌+◌, ◌≤◌, List, length, Option, None, IsSome, IfSome, IsOk, IsErr, Result, Ok, Err, MatchResult, ⊤}
 use Rattle.std.specs.Io.KnownBytes.{Appends, Consumes, IsAtEnd}
 use Rattle.dpx_base.specs.declared.aux_port.Entry.{Entry}
 use Rattle.dpx_base.specs.declared.link.Link.{Link}
@@ -13,10 +13,9 @@ use Rattle.dpx_files.specs.declared.job.Job.{Job}
 use Rattle.dpx_files.specs.declared.job.Job.TheVariants as job
 use Rattle.dpx_files.specs.declared.job.Need.TheVariants as need
 use Rattle.dpx_files.specs.declared.refusal.JobBad.{JobBad}
-use Rattle.dpx_files.specs.declared.refusal.JobBad.TheVariants.{TooLong, NotJson, Wrong, Memory}
+use Rattle.dpx_files.specs.declared.refusal.JobBad.TheVariants.{TooLong, Memory}
 use Rattle.dpx_files.specs.Job.{reading, longest_job, plan_asked}
 use Rattle.dpx_link.specs.declared.train_end.TrainEnd.{TrainEnd}
-use Rattle.dpx_link.specs.declared.train_end.TrainEnd.TheVariants.{Trained, NotTrained, CapsRefused, AuxEnded}
 use Rattle.dpx_link.specs.Training.{Training, IsGood}
 use Rattle.dpx_cli.specs.declared.outcome.Outcome.{Outcome}
 use Rattle.dpx_cli.specs.declared.outcome.Outcome.TheVariants as outcome
@@ -39,7 +38,7 @@ pub record TrainedWith (link : Link) (plan : SinkPlan) (sink : PortState SinkPla
 
 -- The link and the sink were those of the job that the source had, which was read to its end.
 pub record TrainedAs (left_before left_now : Option (List ℕ)) (sink : PortState SinkPlan)
-  (end : TrainEnd) : Type 0 where
+    (end : TrainEnd) : Type 0 where
   pub link : Link
   pub plan : SinkPlan
   pub asked_for : IfSome left_before (λ bytes. reading need.Train bytes ≡ Ok (job.Train link plan))

@@ -1,7 +1,6 @@
 -- Whole reads and whole writes: this project's own.
-use Rattle.std.specs.Prelude.{◌≡◌, ℕ, ◌+◌, ◌<◌, ◌≤◌, List, ◌++◌, length, Option, Result, MatchResult}
+use Rattle.std.specs.Prelude.{◌≡◌, ℕ, ◌+◌, ◌≤◌, List, ◌++◌, length, Option}
 use Rattle.std.specs.Io.KnownBytes.{Appends, Consumes, IsAtEnd}
-use Rattle.dpx_base.specs.Faults.{Rose}
 use Rattle.dpx_files.specs.Job.{longest_job}
 
 -- The bytes were read to the end of the input; or they are one more than a job may have.

@@ -1,6 +1,5 @@
 -- How training ends where a modelled sink answers: this project's own.
-use Rattle.std.specs.Prelude.{◌≡◌, ℕ, ◌≤◌, if◌then◌else◌, List, length, Option, Some, None, Result, Ok, Err, ⊤, IsSome, IfSome}
-use Rattle.std.specs.List.{AllByRecursion}
+use Rattle.std.specs.Prelude.{◌≡◌, ℕ, ◌≤◌, if◌then◌else◌, List, Option, Some, None, Result, Ok, Err, ⊤, IsSome, IfSome}
 use Rattle.dpx_base.specs.declared.aux_port.Entry.{Entry}
 use Rattle.dpx_base.specs.declared.link.Link.{Link}
 use Rattle.dpx_base.specs.Port.{PortState, answers_of}

@@ -1,6 +1,5 @@
-use Rattle.std.proofs.Common.{◌≡◌, List, arith}
+use Rattle.std.proofs.Common.{◌≡◌, arith}
 use Rattle.std.specs.Prelude.{IfSome}
-use Rattle.dpx_base.specs.declared.aux_port.Entry.{Entry}
 use Rattle.dpx_cli.proofs.Modelled.{told_end, told_since}
 use Rattle.dpx_cli.proofs.commands.train_with.Goals as goal
 
