@@ -14,8 +14,6 @@ use std::test::Fail;
 #[derive(Clone, Copy, PartialEq)]
 enum Told {
     Requests,
-    /// With the waits between them.
-    Waits,
     /// With waits and answers.
     All,
 }
@@ -32,7 +30,7 @@ fn push_bytes(text: &mut String, bytes: &[u8]) -> Result<(), Fail> {
 fn push_entry(text: &mut String, entry: &Entry, told: Told) -> Result<(), Fail> {
     match entry {
         Entry::Waited(micros) => {
-            if told != Told::Requests {
+            if told == Told::All {
                 write!(text, "wait {micros}\n")?;
             }
         }
@@ -115,7 +113,7 @@ fn a_modelled_sink_is_asked_and_answers_entry_by_entry(rt: HostRuntime) -> Resul
     Ok(())
 }
 
-/// The requests that a modelled sink is to get, with the waits between them.
+/// The whole conversation with a modelled sink.
 #[derive(Drop)]
 struct Expected {
     text: String,
@@ -124,18 +122,23 @@ struct Expected {
 impl Expected {
     /// The capabilities, their extended field, the power.
     fn new(alloc: Global) -> Result<Expected, Fail> {
-        let text = String::from_str(alloc, "90 00 00 0F\n90 22 00 0F\n80 06 00 00 01\n")?;
+        let text = String::from_str(
+            alloc,
+            "90 00 00 0F = 00 12 14 C4 81 00 00 00 00 00 00 00 00 00 00 80 00\n\
+            90 22 00 0F = 00 14 1E C4 81 00 00 00 00 00 00 00 00 00 00 80 00\n\
+            80 06 00 00 01 = 00\n",
+        )?;
         Ok(Expected { text })
     }
 
-    /// The link registers, and the first pattern with the least drive.
+    /// The link registers.
     fn configure(&mut self, rate: u8, lanes: u8) -> Result<(), Fail> {
         let enhanced = lanes | 0x80;
         write!(
             self.text,
-            "80 01 00 01 {rate:02X} {enhanced:02X}\n80 01 07 01 00 01\n"
+            "80 01 00 01 {rate:02X} {enhanced:02X} = 00\n80 01 07 01 00 01 = 00\n"
         )?;
-        self.start("21", lanes)
+        Ok(())
     }
 
     /// A pattern with the least drive.
@@ -148,39 +151,37 @@ impl Expected {
         for _ in 0..lanes {
             self.text.push_str(" 00")?;
         }
-        self.text.push_str("\n")?;
+        self.text.push_str(" = 00\n")?;
         Ok(())
     }
 
-    /// So many statuses, each after a wait; the least drive is written between them.
-    fn statuses(&mut self, count: u8, micros: u32, lanes: u8) -> Result<(), Fail> {
+    /// The same status so many times, each after a wait; the least drive is written between them.
+    fn statuses(&mut self, count: u8, status: &str, micros: u32, lanes: u8) -> Result<(), Fail> {
         for number in 0..count {
             if number > 0 {
                 let last = lanes.saturating_sub(1);
                 write!(self.text, "80 01 03 {last:02X}")?;
                 self.drives(lanes)?;
             }
-            write!(self.text, "wait {micros}\n90 02 02 05\n")?;
+            write!(self.text, "wait {micros}\n90 02 02 05 = 00 {status}\n")?;
         }
         Ok(())
     }
 
-    /// An attempt that recovers after so many statuses and equalises after so many.
-    fn attempt(&mut self, rate: u8, lanes: u8, recovery: u8, equalisation: u8) -> Result<(), Fail> {
-        self.configure(rate, lanes)?;
-        self.statuses(recovery, 100, lanes)?;
-        self.start("07", lanes)?;
-        self.statuses(equalisation, 400, lanes)
+    /// Recovery, which reads this status so many times.
+    fn recovery(&mut self, lanes: u8, count: u8, status: &str) -> Result<(), Fail> {
+        self.start("21", lanes)?;
+        self.statuses(count, status, 100, lanes)
     }
 
-    /// An attempt in which five statuses ask for the same swing.
-    fn no_recovery(&mut self, rate: u8, lanes: u8) -> Result<(), Fail> {
-        self.configure(rate, lanes)?;
-        self.statuses(5, 100, lanes)
+    /// Equalisation, which reads this status so many times.
+    fn equalisation(&mut self, lanes: u8, count: u8, status: &str) -> Result<(), Fail> {
+        self.start("07", lanes)?;
+        self.statuses(count, status, 400, lanes)
     }
 
     fn end(&mut self) -> Result<(), Fail> {
-        self.text.push_str("80 01 02 00 00\n")?;
+        self.text.push_str("80 01 02 00 00 = 00\n")?;
         Ok(())
     }
 }
@@ -197,11 +198,14 @@ const HBR3: u8 = 0x1E;
 fn no_clock_lowers_the_rate(rt: HostRuntime) -> Result<(), Fail> {
     let alloc = rt.alloc();
     let mut expected = Expected::new(alloc)?;
-    expected.no_recovery(HBR3, 4)?;
-    expected.attempt(HBR2, 4, 1, 1)?;
+    expected.configure(HBR3, 4)?;
+    expected.recovery(4, 5, "11 01 00 00 00 00")?;
+    expected.configure(HBR2, 4)?;
+    expected.recovery(4, 1, "11 11 00 00 00 00")?;
+    expected.equalisation(4, 1, "77 77 01 00 00 00")?;
     expected.end()?;
     let job = modelled(alloc, "HBR3", 4, NO_CLOCK_ON_LANE_3)?;
-    let given = history(alloc, job.as_str(), Told::Waits)?;
+    let given = history(alloc, job.as_str(), Told::All)?;
     assert_eq!(rt; given.as_str(), expected.text.as_str());
     Ok(())
 }
@@ -210,11 +214,15 @@ fn no_clock_lowers_the_rate(rt: HostRuntime) -> Result<(), Fail> {
 fn no_equalisation_halves_the_lanes(rt: HostRuntime) -> Result<(), Fail> {
     let alloc = rt.alloc();
     let mut expected = Expected::new(alloc)?;
-    expected.attempt(HBR2, 4, 1, 5)?;
-    expected.attempt(HBR2, 2, 1, 1)?;
+    expected.configure(HBR2, 4)?;
+    expected.recovery(4, 1, "11 11 00 00 00 00")?;
+    expected.equalisation(4, 5, "77 71 00 00 00 00")?;
+    expected.configure(HBR2, 2)?;
+    expected.recovery(2, 1, "11 00 00 00 00 00")?;
+    expected.equalisation(2, 1, "77 00 01 00 00 00")?;
     expected.end()?;
     let job = modelled(alloc, "HBR2", 4, NO_EQUALISATION_ON_LANE_2)?;
-    let given = history(alloc, job.as_str(), Told::Waits)?;
+    let given = history(alloc, job.as_str(), Told::All)?;
     assert_eq!(rt; given.as_str(), expected.text.as_str());
     Ok(())
 }
@@ -225,12 +233,13 @@ fn a_dead_channel_is_tried_at_each_rate_and_number_of_lanes(rt: HostRuntime) -> 
     let mut expected = Expected::new(alloc)?;
     for lanes in [4, 2, 1] {
         for rate in [HBR3, HBR2, HBR, RBR] {
-            expected.no_recovery(rate, lanes)?;
+            expected.configure(rate, lanes)?;
+            expected.recovery(lanes, 5, "00 00 00 00 00 00")?;
         }
     }
     expected.end()?;
     let job = modelled(alloc, "HBR3", 4, DEAD)?;
-    let given = history(alloc, job.as_str(), Told::Waits)?;
+    let given = history(alloc, job.as_str(), Told::All)?;
     assert_eq!(rt; given.as_str(), expected.text.as_str());
     Ok(())
 }
