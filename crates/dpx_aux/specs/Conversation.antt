@@ -7,7 +7,8 @@ use Rattle.dpx_base.specs.declared.aux_port.Entry.TheVariants.{Waited}
 use Rattle.dpx_base.specs.Port.{PortState, Added, answers_of}
 
 -- a call did this part with its port, whether or not the port tells the entries
-pub record Converses {Plan R : Type 0} (part : R → List Entry → Type 0) (before now : PortState Plan) (given : R) : Type 0 where
+pub record Converses {Plan R : Type 0} (part : R → List Entry → Type 0) (before now : PortState Plan) (given : R)
+    : Type 0 where
   pub entries : List Entry
   pub added : Added entries before now
   pub done : part given entries
@@ -23,7 +24,8 @@ pub record Waits {E : Type 0} (micros : ℕ) (given : Result ⊤ E) (history : L
   pub waited : history ≡ Waited micros ∷ []
 
 -- one part, and behind it the next, which may depend on what the first gave
-pub record Then {A B E : Type 0} (first : Result A E → List Entry → Type 0) (next : A → Result B E → List Entry → Type 0) (given : Result B E) (history : List Entry) : Type 0 where
+pub record Then {A B E : Type 0} (first : Result A E → List Entry → Type 0)
+    (next : A → Result B E → List Entry → Type 0) (given : Result B E) (history : List Entry) : Type 0 where
   pub middle : Result A E
   pub front : List Entry
   pub back : List Entry
@@ -32,15 +34,18 @@ pub record Then {A B E : Type 0} (first : Result A E → List Entry → Type 0) 
   pub goes_on : MatchResult middle (λ value. next value given back) (λ error. (given ≡ Err error) × (back ≡ []))
 
 infixl 10 ◌>>=◌
-abbrev pub ◌>>=◌ : {A B E : Type 0} → (Result A E → List Entry → Type 0) → (A → Result B E → List Entry → Type 0) → Result B E → List Entry → Type 0
+abbrev pub ◌>>=◌ : {A B E : Type 0} → (Result A E → List Entry → Type 0) → (A → Result B E → List Entry → Type 0)
+    → Result B E → List Entry → Type 0
 first >>= next = Then first next
 
 -- one part where the test holds, else another
-pub record Choice {R : Type 0} (test : Bool) (yes no : R → List Entry → Type 0) (given : R) (history : List Entry) : Type 0 where
+pub record Choice {R : Type 0} (test : Bool) (yes no : R → List Entry → Type 0) (given : R) (history : List Entry)
+    : Type 0 where
   pub if_true : test ≡ true → yes given history
   pub if_false : test ≡ false → no given history
 
 -- Of two histories of the part whose answers begin alike, entries and results are the same: the answers decide.
 abbrev pub IsDecided : {R : Type 0} → (R → List Entry → Type 0) → Type 0
 IsDecided {R} part =
-    (r s : R) (xs ys : List Entry) (later after : List Answer) → part r xs → part s ys → answers_of xs ++ later ≡ answers_of ys ++ after → (xs ≡ ys) × (r ≡ s)
+    (r s : R) (xs ys : List Entry) (later after : List Answer) → part r xs → part s ys
+    → answers_of xs ++ later ≡ answers_of ys ++ after → (xs ≡ ys) × (r ≡ s)

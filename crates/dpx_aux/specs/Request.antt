@@ -1,5 +1,6 @@
 -- Native AUX requests: VESA DisplayPort 1.4a, AUX transaction syntax.
-use Rattle.std.specs.Prelude.{ℕ, ◌+◌, ◌-◌, ◌*◌, ◌/◌, ◌%◌, ◌^◌, ◌≤◌, ◌==◌, ◌&&◌, nat_le, if◌then◌else◌, List, [], ◌∷◌, ◌++◌, length, Result, Ok, Err}
+use Rattle.std.specs.Prelude.{ℕ, ◌+◌, ◌-◌, ◌*◌, ◌/◌, ◌%◌, ◌^◌, ◌≤◌, ◌==◌, ◌&&◌, nat_le, if◌then◌else◌, List, [], ◌∷◌}
+use Rattle.std.specs.Prelude.{◌++◌, length, Result, Ok, Err}
 use Rattle.dpx_aux.specs.declared.request.Request.{Request}
 use Rattle.dpx_aux.specs.declared.request.Request.TheVariants.{Read, Write}
 use Rattle.dpx_aux.specs.declared.request.AuxBad.{AuxBad}
@@ -42,17 +43,20 @@ address_in first middle low = first % 16 * 2 ^ 16 + middle * 2 ^ 8 + low
 -- the request, if its bytes end within the addresses
 abbrev pub within_addresses : Request → Result Request AuxBad
 within_addresses request =
-    if nat_le (address_of request + length_of request) (2 ^ 20) then Ok request else Err (BadAddress (address_of request))
+    if nat_le (address_of request + length_of request) (2 ^ 20) then Ok request
+    else Err (BadAddress (address_of request))
 
 -- a read has nothing behind its length, and asks for 1 to 16 bytes
 abbrev pub read_from : ℕ → ℕ → List ℕ → Result Request AuxBad
 read_from address last payload =
-    if nat_le last 15 && length payload == 0 then within_addresses (Read address (last + 1)) else Err (BadLength (length payload + 4))
+    if nat_le last 15 && length payload == 0 then within_addresses (Read address (last + 1))
+    else Err (BadLength (length payload + 4))
 
 -- a write has as many bytes as its length says, 1 to 16
 abbrev pub write_from : ℕ → ℕ → List ℕ → Result Request AuxBad
 write_from address last payload =
-    if nat_le last 15 && length payload == last + 1 then within_addresses (Write address payload) else Err (BadLength (length payload + 4))
+    if nat_le last 15 && length payload == last + 1 then within_addresses (Write address payload)
+    else Err (BadLength (length payload + 4))
 
 -- what bytes stand for, or the first fault
 abbrev pub request_from : List ℕ → Result Request AuxBad

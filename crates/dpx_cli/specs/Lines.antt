@@ -28,7 +28,8 @@ trained_line link requests =
 -- the swing and the emphasis of a lane's drive byte: bits 1:0 and 4:3
 unfoldable pub lane_line : ℕ → ℕ → List ℕ
 lane_line lane register =
-    codes "lane " ++ decimal lane ++ codes " swing " ++ decimal (register % 4) ++ codes " emphasis " ++ decimal (register / 8 % 4) ++ line_feed
+    codes "lane " ++ decimal lane ++ codes " swing " ++ decimal (register % 4)
+    ++ codes " emphasis " ++ decimal (register / 8 % 4) ++ line_feed
 
 -- a line for each of the first lanes
 unfoldable pub lane_lines : List ℕ → ℕ → List ℕ

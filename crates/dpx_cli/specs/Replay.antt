@@ -1,7 +1,8 @@
--- What the top call does, by its outcome: this project's own. Throughout, `left_before` and `left_now` are the bytes that
--- the source had left before the call and has after it, where it tells them; `taken_before` and `taken_now` those that the
--- sink of the report took; `sink` is what the AUX port tells after the call.
-use Rattle.std.specs.Prelude.{◌≡◌, ◌≢◌, ◌⊎◌, ℕ, ◌+◌, ◌≤◌, List, length, Option, None, IsSome, IfSome, IsOk, IsErr, Result, Ok, Err, MatchResult, ⊤}
+-- What the top call does, by its outcome: this project's own. Throughout, `left_before` and `left_now` are the bytes
+-- that the source had left before the call and has after it, where it tells them; `taken_before` and `taken_now` those
+-- that the sink of the report took; `sink` is what the AUX port tells after the call.
+use Rattle.std.specs.Prelude.{◌≡◌, ◌≢◌, ◌⊎◌, ℕ, ◌+◌, ◌≤◌, List, length, Option, None, IsSome, IfSome, IsOk, IsErr}
+use Rattle.std.specs.Prelude.{Result, Ok, Err, MatchResult, ⊤}
 use Rattle.std.specs.Io.KnownBytes.{Appends, Consumes, IsAtEnd}
 use Rattle.dpx_base.specs.declared.aux_port.Entry.{Entry}
 use Rattle.dpx_base.specs.declared.link.Link.{Link}
@@ -24,8 +25,8 @@ use Rattle.dpx_cli.specs.Lines.{train_report}
 use Rattle.dpx_cli.specs.Transfer.{AppendsFront}
 use Rattle.dpx_cli.specs.Words.{command_of}
 
--- A plan was loaded and a link trained, and that ended so: by the history, over every port only with a good last status,
--- and, where the port tells its plan and its history, as the plan has it.
+-- A plan was loaded and a link trained, and that ended so: by the history, over every port only with a good last
+-- status, and, where the port tells its plan and its history, as the plan has it.
 pub record TrainedWith (link : Link) (plan : SinkPlan) (sink : PortState SinkPlan) (end : TrainEnd) : Type 0 where
   pub entries : List Entry
   pub training : Training link end entries
@@ -45,7 +46,8 @@ pub record TrainedAs (left_before left_now : Option (List ℕ)) (sink : PortStat
   pub read_whole : IsAtEnd left_now
   pub trained : TrainedWith link plan sink end
 
--- A job is refused for what its bytes are. It was read to its end; or it is too long, and no more was read than shows it.
+-- A job is refused for what its bytes are. It was read to its end; or it is too long, and no more was read than shows
+-- it.
 pub record RefusedAs (left_before left_now : Option (List ℕ)) (why : JobBad) : Type 0 where
   pub reads : IfSome left_before (λ bytes. reading need.Train bytes ≡ Err why)
   pub named : why ≢ Memory
@@ -82,7 +84,8 @@ module _ (left_before left_now : Option (List ℕ)) (ReadFailed SinkKept : Type 
 
 -- Each outcome has its cause, and says what became of the source and of the sink: `ReadFailed`, `SourceKept` and
 -- `SinkKept` are the facts of a call that a read failed, that the source is as it was, and that the sink is.
-module _ (words : List (List ℕ)) (left_before left_now : Option (List ℕ)) (ReadFailed SourceKept SinkKept : Type 0) (sink : PortState SinkPlan) where
+module _ (words : List (List ℕ)) (left_before left_now : Option (List ℕ)) (ReadFailed SourceKept SinkKept : Type 0)
+    (sink : PortState SinkPlan) where
   abbrev pub Caused : Outcome → Type 0
   Caused outcome.Usage = (command_of words ≡ None) × SourceKept × SinkKept
   Caused (outcome.NoJob why) = IsSome (command_of words) × RefusedAs left_before left_now why × SinkKept
@@ -96,7 +99,8 @@ pub record Wrote (text : List ℕ) (status : ℕ) (taken_before taken_now : Opti
   pub taken : Appends taken_before taken_now text
 
 -- a write failed: a front of the text was taken, and the status is 8
-pub record Broke (text : List ℕ) (WriteFailed : Type 0) (taken_before taken_now : Option (List ℕ)) (result : ℕ) : Type 0 where
+pub record Broke (text : List ℕ) (WriteFailed : Type 0) (taken_before taken_now : Option (List ℕ)) (result : ℕ)
+    : Type 0 where
   pub answered : result ≡ 8
   pub failed : WriteFailed
   pub taken : AppendsFront taken_before taken_now text
@@ -104,15 +108,17 @@ pub record Broke (text : List ℕ) (WriteFailed : Type 0) (taken_before taken_no
 module _ (WriteFailed : Type 0) (taken_before taken_now : Option (List ℕ)) (result : ℕ) where
   -- one or the other
   abbrev pub Tells : (text : List ℕ) (status : ℕ) → Type 0
-  Tells text status = Wrote text status taken_before taken_now result ⊎ Broke text WriteFailed taken_before taken_now result
+  Tells text status =
+      Wrote text status taken_before taken_now result ⊎ Broke text WriteFailed taken_before taken_now result
 
   -- an outcome is reported; or there was no memory for its report, and that is told
   abbrev pub Reported : Outcome → Type 0
   Reported outcome = Tells (report_of outcome) (status_of outcome) ⊎ Tells memory_line 10
 
 -- What a call does: it comes to an outcome, which has its cause and is reported.
-pub record Does (words : List (List ℕ)) (left_before left_now : Option (List ℕ)) (ReadFailed SourceKept SinkKept : Type 0)
-    (sink : PortState SinkPlan) (WriteFailed : Type 0) (taken_before taken_now : Option (List ℕ)) (result : ℕ) : Type 0 where
+pub record Does (words : List (List ℕ)) (left_before left_now : Option (List ℕ))
+    (ReadFailed SourceKept SinkKept : Type 0) (sink : PortState SinkPlan)
+    (WriteFailed : Type 0) (taken_before taken_now : Option (List ℕ)) (result : ℕ) : Type 0 where
   pub outcome : Outcome
   pub caused : Caused words left_before left_now ReadFailed SourceKept SinkKept sink outcome
   pub reported : Reported WriteFailed taken_before taken_now result outcome

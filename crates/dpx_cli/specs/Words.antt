@@ -1,5 +1,6 @@
 -- The words of the command line: this project's own.
-use Rattle.std.specs.Prelude.{◌≡◌, ◌==◌, ◌&&◌, Bool, not, if◌then◌else◌, List, [], ◌∷◌, codes, slice_index, Option, Some, None, Result, MatchResult, ⊤, ℕ}
+use Rattle.std.specs.Prelude.{◌≡◌, ◌==◌, ◌&&◌, Bool, not, if◌then◌else◌, List, [], ◌∷◌, codes, slice_index, Option}
+use Rattle.std.specs.Prelude.{Some, None, Result, MatchResult, ⊤, ℕ}
 use Rattle.std.specs.Prelude.{String, string_bytes, map}
 use Rattle.std.specs.Str.{bytes_eq}
 use Rattle.std.specs.declared.alloc.Global.{Global}

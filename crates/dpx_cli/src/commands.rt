@@ -43,7 +43,7 @@ pub fn replay<S: Source, P: LoadPort, O: Sink>(
         → Refused (S.left src.old) (S.left src.new) (O.taken out.old) (O.taken out.new) }
     ensures refused_keeps_sink { result ≡ 3 → aux.new ≡ aux.old }
 
-    // Training: what 0 and 4 say. Whatever the status, the sink is as it was or was trained; it was wherever it could be.
+    // Training: what 0 and 4 say. Whatever the status, the sink is as it was or was trained; it was wherever it could.
     ensures ended { SaysEnded result
         → Ended (S.left src.old) (S.left src.new) (P.state aux.new) (O.taken out.old) (O.taken out.new) result }
     ensures sink_kept_or_trained { (aux.new ≡ aux.old)

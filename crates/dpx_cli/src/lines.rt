@@ -2,7 +2,9 @@ ghost use Rattle.std.specs.Prelude.{◌≡◌, ◌++◌, OnOk};
 ghost use Rattle.dpx_base.specs.Lanes.{count_of};
 ghost use Rattle.dpx_files.specs.LinkFields.{rate_name};
 ghost use Rattle.dpx_cli.specs.Digits.{hex_byte};
-ghost use Rattle.dpx_cli.specs.Lines.{requests_text, trained_line, lane_line, lane_lines, spaced_bytes, last_line, refused_text, refusal_text, spent_text, not_trained_text, last_word_of, aux_text, train_report};
+ghost use Rattle.dpx_cli.specs.Lines.{requests_text, trained_line, lane_line, lane_lines, spaced_bytes, last_line};
+ghost use Rattle.dpx_cli.specs.Lines.{refused_text, refusal_text, spent_text, not_trained_text, last_word_of};
+ghost use Rattle.dpx_cli.specs.Lines.{aux_text, train_report};
 
 use crate::report::Report;
 use dpx_aux::{AuxEnd, LastAnswer};
@@ -38,7 +40,8 @@ fn push_trained(
 ) -> Result<(), AllocError>
     ensures { OnOk result
         (report.new
-        ≡ report.old ++ (trained_line link requests ++ lane_lines drive.now.registers (count_of link.lanes) ++ last_line last.now.bytes)) }
+        ≡ report.old ++ (trained_line link requests ++ lane_lines drive.now.registers (count_of link.lanes)
+        ++ last_line last.now.bytes)) }
 {
     push_trained_line(report, link, requests)?;
     push_lanes(report, drive, link.lanes)?;

@@ -1,5 +1,6 @@
 ghost use Rattle.std.specs.Prelude.{◌≡◌, ◌++◌, OnOk};
-ghost use Rattle.dpx_cli.specs.Outcome.{usage_line, memory_line, job_report, report_of, train_status, job_status, status_of, no_job_for};
+ghost use Rattle.dpx_cli.specs.Outcome.{usage_line, memory_line, job_report, report_of, train_status, job_status};
+ghost use Rattle.dpx_cli.specs.Outcome.{status_of, no_job_for};
 
 use crate::lines::push_train_end;
 use crate::report::Report;

@@ -51,13 +51,16 @@ pub record AnsweredTraining (top : Link) (caps extended : List ℕ) (defers : �
 -- where the sink defers at most seven times, every such training ends as the plan says
 abbrev pub TrainingIsComplete : Type 0
 TrainingIsComplete =
-    (top : Link) (caps extended : List ℕ) (defers : ℕ) (channel : List CellFacts) (end : TrainEnd) (history : List Entry)
-    → AnsweredTraining top caps extended defers channel end history → defers ≤ 7 → EndsByPlan channel top (caps_from (in_force caps extended)) end
+    (top : Link) (caps extended : List ℕ) (defers : ℕ) (channel : List CellFacts) (end : TrainEnd)
+    (history : List Entry)
+    → AnsweredTraining top caps extended defers channel end history → defers ≤ 7
+    → EndsByPlan channel top (caps_from (in_force caps extended)) end
 
 -- where it defers eight times or more, no training gets past its first request
 abbrev pub DeferralEndsTraining : Type 0
 DeferralEndsTraining =
-    (top : Link) (caps extended : List ℕ) (defers : ℕ) (channel : List CellFacts) (end : TrainEnd) (history : List Entry)
+    (top : Link) (caps extended : List ℕ) (defers : ℕ) (channel : List CellFacts) (end : TrainEnd)
+    (history : List Entry)
     → AnsweredTraining top caps extended defers channel end history → 8 ≤ defers → EndsDeferred end
 
 -- a port that was loaded with this plan, was trained to this end, and still tells its history and its plan
@@ -73,8 +76,10 @@ pub record TrainedPort (top : Link) (caps extended : List ℕ) (defers : ℕ) (c
 -- every such port's training is one that the loaded sink answered
 abbrev pub PortsAreAnswered : Type 0
 PortsAreAnswered =
-    (top : Link) (caps extended : List ℕ) (defers : ℕ) (channel : List CellFacts) (end : TrainEnd) (before now : PortState SinkPlan)
-    → TrainedPort top caps extended defers channel end before now → IfSome now.history (AnsweredTraining top caps extended defers channel end)
+    (top : Link) (caps extended : List ℕ) (defers : ℕ) (channel : List CellFacts) (end : TrainEnd)
+    (before now : PortState SinkPlan)
+    → TrainedPort top caps extended defers channel end before now
+    → IfSome now.history (AnsweredTraining top caps extended defers channel end)
 
 -- how a training ends that a plan answered: a script leaves it open
 abbrev pub EndsAsPlanned : SinkPlan → Link → TrainEnd → Type 0

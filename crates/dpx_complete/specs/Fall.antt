@@ -40,4 +40,5 @@ fall channel first = fall_from attempts_at_most channel first first
 -- The path is never cut short: with more configurations allowed it ends at the same one.
 abbrev pub FallIsWhole : Type 0
 FallIsWhole =
-    (more : ℕ) (channel : List CellFacts) (first : Link) → fall_from (attempts_at_most + more) channel first first ≡ fall channel first
+    (more : ℕ) (channel : List CellFacts) (first : Link)
+    → fall_from (attempts_at_most + more) channel first first ≡ fall channel first

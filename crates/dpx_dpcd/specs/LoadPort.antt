@@ -21,4 +21,5 @@ pub record IsLoaded (loaded : SinkPlan) (now : PortState SinkPlan) : Type 0 wher
 -- where a port tells its plan and its history, the answers in the history are the plan's
 abbrev pub AnswersAsPlanned : PortState SinkPlan → Type 0
 AnswersAsPlanned state =
-    IfSome state.plan (λ plan. IfSome state.history (λ entries. answers_of entries ≡ planned plan (requests_of entries)))
+    IfSome state.plan (λ plan.
+    IfSome state.history (λ entries. answers_of entries ≡ planned plan (requests_of entries)))

@@ -1,6 +1,7 @@
 -- Link status and drive: VESA DisplayPort 1.4a, DPCD 00202 to 00207 and 00103 to 00106, over six status bytes. That
 -- swing goes before pre-emphasis, and when a maximum counts as reached, is this project's own.
-use Rattle.std.specs.Prelude.{ℕ, ◌+◌, ◌-◌, ◌*◌, ◌/◌, ◌%◌, ◌^◌, ◌==◌, ◌&&◌, Bool, min, nat_lt, if◌then◌else◌, List, [], ◌∷◌, slice_index}
+use Rattle.std.specs.Prelude.{ℕ, ◌+◌, ◌-◌, ◌*◌, ◌/◌, ◌%◌, ◌^◌, ◌==◌, ◌&&◌, Bool, min, nat_lt, if◌then◌else◌, List, []}
+use Rattle.std.specs.Prelude.{◌∷◌, slice_index}
 use Rattle.dpx_base.specs.declared.lanes.Lanes.{Lanes}
 use Rattle.dpx_base.specs.Lanes.{count_of, every_lane}
 
@@ -25,7 +26,8 @@ eq_done lanes status = every_lane lanes (has_bits 7 status) && (slice_index stat
 -- that the swing is 3, bit 5 that the emphasis is 3 less the swing.
 abbrev pub register_byte : ℕ → ℕ → ℕ
 register_byte swing asked =
-    swing + 8 * min asked (3 - swing) + (if swing == 3 then 4 else 0) + (if min asked (3 - swing) == 3 - swing then 32 else 0)
+    swing + 8 * min asked (3 - swing)
+    + (if swing == 3 then 4 else 0) + (if min asked (3 - swing) == 3 - swing then 32 else 0)
 
 -- what a lane asks for: swing in bits 1:0, emphasis in bits 3:2; 00 where it is not in use
 abbrev pub lane_level : Lanes → List ℕ → ℕ → ℕ

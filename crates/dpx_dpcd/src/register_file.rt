@@ -1,8 +1,11 @@
-ghost use Rattle.std.specs.Prelude.{◌≡◌, ℕ, ◌+◌, ◌-◌, ◌^◌, ◌==◌, ◌&&◌, ◌<◌, ◌≤◌, if◌then◌else◌, length, map, slice_index};
+ghost use Rattle.std.specs.Prelude.{◌≡◌, ℕ, ◌+◌, ◌-◌, ◌^◌, ◌==◌, ◌&&◌, ◌<◌, ◌≤◌, if◌then◌else◌, length, map};
+ghost use Rattle.std.specs.Prelude.{slice_index};
 ghost use Rattle.std.specs.List.{range_with_len};
 ghost use Rattle.dpx_base.specs.Lanes.{every_lane};
 ghost use Rattle.dpx_aux.specs.Request.{IsValid};
-ghost use Rattle.dpx_dpcd.specs.RegFile.{facts_of, registers_of, brought, registers_after, written, is_writable, shown, status_at, link_status, bits_in_use, lane_pair, lane_status, lane_request, is_recovered, is_equalised, rate_with};
+ghost use Rattle.dpx_dpcd.specs.RegFile.{facts_of, registers_of, brought, registers_after, written, is_writable};
+ghost use Rattle.dpx_dpcd.specs.RegFile.{shown, status_at, link_status, bits_in_use, lane_pair, lane_status};
+ghost use Rattle.dpx_dpcd.specs.RegFile.{lane_request, is_recovered, is_equalised, rate_with};
 
 use crate::Channel;
 use dpx_aux::{Data16, Reply, Request};

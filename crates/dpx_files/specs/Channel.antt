@@ -1,5 +1,6 @@
 -- The channel of a modelled sink: this project's own.
-use Rattle.std.specs.Prelude.{ℕ, Bool, true, false, nat_le, ◌==◌, if◌then◌else◌, List, [], ◌∷◌, ◌++◌, Option, Some, None, option_and_then, replicate, slice_set}
+use Rattle.std.specs.Prelude.{ℕ, Bool, true, false, nat_le, ◌==◌, if◌then◌else◌, List, [], ◌∷◌, ◌++◌, Option, Some}
+use Rattle.std.specs.Prelude.{None, option_and_then, replicate, slice_set}
 use Rattle.serde_json.specs.Data.{Data}
 use Rattle.serde_json.specs.Find.{get}
 use Rattle.dpx_base.specs.declared.rate.Rate.{Rate}
@@ -75,5 +76,7 @@ channel_of value = do
 -- a channel with other lanes at this rate
 abbrev pub with_lanes : Rate → List CellFacts → List CellFacts → List CellFacts
 with_lanes rate (a ∷ b ∷ c ∷ d ∷ []) channel =
-    slice_set (slice_set (slice_set (slice_set channel (place_of rate 0) a) (place_of rate 1) b) (place_of rate 2) c) (place_of rate 3) d
+    slice_set
+    (slice_set (slice_set (slice_set channel (place_of rate 0) a) (place_of rate 1) b) (place_of rate 2) c)
+    (place_of rate 3) d
 with_lanes rate _ channel = channel

@@ -35,7 +35,8 @@ rate_of link = wanted field.Rate (option_and_then rate_named (option_and_then as
 
 -- `lanes`: 1, 2 or 4
 abbrev pub lanes_of : Data → Result Lanes Field
-lanes_of link = wanted field.Lanes (option_and_then lanes_from (option_and_then whole_number (get (codes "lanes") link)))
+lanes_of link =
+    wanted field.Lanes (option_and_then lanes_from (option_and_then whole_number (get (codes "lanes") link)))
 
 -- `link`: an object with both; the framing is enhanced
 unfoldable pub link_of : Data → Result Link Field

@@ -1,5 +1,6 @@
 -- A modelled sink: this project's own.
-use Rattle.std.specs.Prelude.{ℕ, nat_lt, if◌then◌else◌, List, codes, Option, Some, None, option_and_then, replicate, Result, Ok}
+use Rattle.std.specs.Prelude.{ℕ, nat_lt, if◌then◌else◌, List, codes, Option, Some, None, option_and_then, replicate}
+use Rattle.std.specs.Prelude.{Result, Ok}
 use Rattle.std.specs.Result.{result_ok}
 use Rattle.serde_json.specs.Data.{Data}
 use Rattle.serde_json.specs.Find.{get, as_str}

@@ -1,7 +1,8 @@
 -- Refusals of a job: this project's own.
 use Rattle.std.specs.Prelude.{◌≡◌, ◌⊎◌, ℕ, List, codes, Option, Some, None, Result, Ok, Err, MatchResult}
 use Rattle.dpx_files.specs.declared.refusal.Field.{Field}
-use Rattle.dpx_files.specs.declared.refusal.Field.TheVariants.{Root, Link, Rate, Lanes, Sink, Script, Model, Caps, Extended, Defers, Channel}
+use Rattle.dpx_files.specs.declared.refusal.Field.TheVariants.{Root, Link, Rate, Lanes, Sink, Script, Model, Caps}
+use Rattle.dpx_files.specs.declared.refusal.Field.TheVariants.{Extended, Defers, Channel}
 use Rattle.dpx_files.specs.declared.refusal.JobBad.{JobBad}
 use Rattle.dpx_files.specs.declared.refusal.JobBad.TheVariants.{Wrong, Memory}
 

@@ -1,5 +1,5 @@
--- One attempt to train a configuration: VESA DisplayPort 1.4a, link training, in outline; the order of the writes is this
--- project's own.
+-- One attempt to train a configuration: VESA DisplayPort 1.4a, link training, in outline; the order of the writes is
+-- this project's own.
 use Rattle.std.specs.Prelude.{◌≡◌, ℕ, ◌+◌, true, if◌then◌else◌, List, [], ◌∷◌, ◌++◌, Result, Ok, Err, ⊤}
 use Rattle.dpx_base.specs.declared.aux_port.Entry.{Entry}
 use Rattle.dpx_base.specs.declared.lanes.Lanes.{Lanes}
@@ -31,7 +31,8 @@ equalised (Lost last) = Ok (attempt.Unrecovered last)
 equalised (Aux why) = Err why
 
 -- equalisation, and what its end means
-pub record Equalises (caps : Caps) (link : Link) (drive : Drive) (given : Result AttemptEnd AuxEnd) (history : List Entry) : Type 0 where
+pub record Equalises (caps : Caps) (link : Link) (drive : Drive) (given : Result AttemptEnd AuxEnd)
+    (history : List Entry) : Type 0 where
   pub end : PhaseEnd
   pub phase : Equalisation link (pattern_for caps) drive caps.interval end history
   pub means : given ≡ equalised end

@@ -74,5 +74,7 @@ lanes_rank Four = 2
 
 -- lanes never rise, and with equal lanes the rate falls
 abbrev pub Falls : Link → Next → Type 0
-Falls link (Try next) = (lanes_rank next.lanes ≤ lanes_rank link.lanes) × (lanes_rank next.lanes ≡ lanes_rank link.lanes → rate_rank next.rate < rate_rank link.rate)
+Falls link (Try next) =
+    (lanes_rank next.lanes ≤ lanes_rank link.lanes)
+    × (lanes_rank next.lanes ≡ lanes_rank link.lanes → rate_rank next.rate < rate_rank link.rate)
 Falls link (Stop verdict) = ⊤

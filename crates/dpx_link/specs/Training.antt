@@ -30,12 +30,13 @@ pub record Never {R : Type 0} (given : R) (history : List Entry) : Type 0 where
   pub never : ⊥
 
 -- behind an attempt: more, from the next configuration on, or the end
-abbrev pub AfterAttempt : (Link → Result Verdict AuxEnd → List Entry → Type 0) → Next → Result Verdict AuxEnd → List Entry → Type 0
+abbrev pub AfterAttempt : (Link → Result Verdict AuxEnd → List Entry → Type 0)
+    → Next → Result Verdict AuxEnd → List Entry → Type 0
 AfterAttempt more (Try next) = more next
 AfterAttempt more (Stop verdict) = Ends (Ok verdict)
 
--- The attempts from a configuration on, at most so many, in a training that began with `first`: each but the last leads to
--- the next.
+-- The attempts from a configuration on, at most so many, in a training that began with `first`: each but the last
+-- leads to the next.
 unfoldable pub Attempts : ℕ → Caps → Link → Link → Result Verdict AuxEnd → List Entry → Type 0
 Attempts zero caps first link = Never
 Attempts (suc left) caps first link = do
@@ -80,12 +81,14 @@ pub record Training (top : Link) (end : TrainEnd) (history : List Entry) : Type 
 
 -- trained only where the last status shows every lane in use done
 abbrev pub IsGoodVerdict : Verdict → Type 0
-IsGoodVerdict (verdict.Trained link drive last) = (cr_done link.lanes last.bytes ≡ true) × (eq_done link.lanes last.bytes ≡ true)
+IsGoodVerdict (verdict.Trained link drive last) =
+    (cr_done link.lanes last.bytes ≡ true) × (eq_done link.lanes last.bytes ≡ true)
 IsGoodVerdict (verdict.NotTrained last) = ⊤
 IsGoodVerdict (verdict.CapsRefused why) = ⊤
 
 abbrev pub IsGood : TrainEnd → Type 0
-IsGood (Trained link drive last requests) = (cr_done link.lanes last.bytes ≡ true) × (eq_done link.lanes last.bytes ≡ true)
+IsGood (Trained link drive last requests) =
+    (cr_done link.lanes last.bytes ≡ true) × (eq_done link.lanes last.bytes ≡ true)
 IsGood (NotTrained last requests) = ⊤
 IsGood (CapsRefused why requests) = ⊤
 IsGood (AuxEnded why requests) = ⊤

@@ -1,5 +1,6 @@
 ghost use Rattle.std.specs.Prelude.{◌≡◌};
-ghost use Rattle.dpx_link.specs.Fallback.{slower_than, half_of, after_recovery, after_equalisation, next_of, falls_back, Falls};
+ghost use Rattle.dpx_link.specs.Fallback.{slower_than, half_of, after_recovery, after_equalisation, next_of};
+ghost use Rattle.dpx_link.specs.Fallback.{falls_back, Falls};
 
 use crate::attempt::AttemptEnd;
 use crate::train_end::Verdict;

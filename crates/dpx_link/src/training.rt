@@ -1,6 +1,7 @@
 ghost use Rattle.std.specs.Prelude.{◌≡◌, ◌+◌, ◌^◌, ◌<◌, ◌≤◌, IfOk};
 ghost use Rattle.dpx_aux.specs.Conversation.{Converses};
-ghost use Rattle.dpx_link.specs.Training.{Capabilities, Attempts, TrainsWith, Trains, Training, requests_of, IsGood, IsGoodVerdict, attempts_at_most};
+ghost use Rattle.dpx_link.specs.Training.{Capabilities, Attempts, TrainsWith, Trains, Training, requests_of, IsGood};
+ghost use Rattle.dpx_link.specs.Training.{IsGoodVerdict, attempts_at_most};
 
 use crate::attempt::attempt;
 use crate::fallback::{Next, follow_up};
@@ -82,7 +83,8 @@ fn train_with<P: AuxPort>(port: &mut P, caps: &Caps, first: Link) -> Result<Verd
 fn attempts<P: AuxPort>(port: &mut P, caps: &Caps, first: Link) -> Result<Verdict, AuxEnd>
     requires interval { caps.now.interval ≤ 127 }
     requires countable { (P.state port.old).asked + 3072 < 2 ^ 64 }
-    ensures attempts { Converses (Attempts attempts_at_most caps.now first first) (P.state port.old) (P.state port.new) result }
+    ensures attempts { Converses (Attempts attempts_at_most caps.now first first)
+        (P.state port.old) (P.state port.new) result }
     ensures few { (P.state port.new).asked ≤ (P.state port.old).asked + 3072 }
     ensures good { IfOk result IsGoodVerdict }
 {

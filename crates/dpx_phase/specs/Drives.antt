@@ -1,4 +1,5 @@
--- The drives of a training phase, each a list of register bytes, lane 0 first: VESA DisplayPort 1.4a, DPCD 00103 to 00106.
+-- The drives of a training phase, each a list of register bytes, lane 0 first: VESA DisplayPort 1.4a, DPCD 00103 to
+-- 00106.
 use Rattle.std.specs.Prelude.{ℕ, ◌%◌, ◌==◌, Bool, List, [], ◌∷◌, map, take, get_or, slice_index}
 use Rattle.dpx_base.specs.declared.lanes.Lanes.{Lanes}
 use Rattle.dpx_base.specs.Lanes.{count_of, every_lane}

@@ -1,6 +1,7 @@
 -- Where the two phases end, over the list of the statuses read, counted from 1: VESA DisplayPort 1.4a, link training,
 -- in outline. How often a status is read, and the order of the conditions, are this project's own.
-use Rattle.std.specs.Prelude.{◌≡◌, ℕ, ◌+◌, ◌-◌, ◌<◌, ◌≤◌, ◌==◌, ◌&&◌, Bool, not, nat_le, if◌then◌else◌, List, [], length, get_or, Option, Some, None}
+use Rattle.std.specs.Prelude.{◌≡◌, ℕ, ◌+◌, ◌-◌, ◌<◌, ◌≤◌, ◌==◌, ◌&&◌, Bool, not, nat_le, if◌then◌else◌, List, []}
+use Rattle.std.specs.Prelude.{length, get_or, Option, Some, None}
 use Rattle.dpx_base.specs.declared.lanes.Lanes.{Lanes}
 use Rattle.dpx_dpcd.specs.declared.status.Status6.{Status6}
 use Rattle.dpx_dpcd.specs.Status.{cr_done, eq_done}
@@ -45,7 +46,8 @@ recovery_end lanes alike n drive last =
 -- had equal swings; or it is the tenth.
 unfoldable pub recovery_ends : Lanes → List Status6 → ℕ → Option PhaseEnd
 recovery_ends lanes statuses n =
-    recovery_end lanes (five_alike lanes no_drive statuses n) n (drive_after lanes no_drive statuses (n - 1)) (status_at statuses n)
+    recovery_end lanes (five_alike lanes no_drive statuses n) n
+    (drive_after lanes no_drive statuses (n - 1)) (status_at statuses n)
 
 -- the first of equalisation's three conditions that holds, and the end that it is
 abbrev pub first_of_three : (recovered equalised fifth : Bool) → List ℕ → Status6 → Option PhaseEnd
@@ -71,7 +73,8 @@ abbrev pub EndsNothing : (List Status6 → ℕ → Option PhaseEnd) → List Sta
 EndsNothing ending statuses = (n : ℕ) → 1 ≤ n → n ≤ length statuses → ending statuses n ≡ None
 
 -- a phase ends at the last of these statuses, and at no earlier one
-pub record EndsAt (ending : List Status6 → ℕ → Option PhaseEnd) (statuses : List Status6) (end : PhaseEnd) : Type 0 where
+pub record EndsAt (ending : List Status6 → ℕ → Option PhaseEnd) (statuses : List Status6) (end : PhaseEnd)
+    : Type 0 where
   pub some : 1 ≤ length statuses
   pub last : ending statuses (length statuses) ≡ Some end
   pub earlier : (n : ℕ) → 1 ≤ n → n < length statuses → ending statuses n ≡ None

@@ -1,5 +1,6 @@
 -- What a training phase asks: VESA DisplayPort 1.4a, link training, in outline. The waits are this project's own.
-use Rattle.std.specs.Prelude.{◌≡◌, ℕ, ◌+◌, ◌*◌, ◌==◌, true, false, min, if◌then◌else◌, List, [], ◌∷◌, ◌++◌, length, Option, Some, None, Result, Ok, Err, ⊤}
+use Rattle.std.specs.Prelude.{◌≡◌, ℕ, ◌+◌, ◌*◌, ◌==◌, true, false, min, if◌then◌else◌, List, [], ◌∷◌, ◌++◌, length}
+use Rattle.std.specs.Prelude.{Option, Some, None, Result, Ok, Err, ⊤}
 use Rattle.dpx_base.specs.declared.aux_port.Entry.{Entry}
 use Rattle.dpx_base.specs.declared.lanes.Lanes.{Lanes}
 use Rattle.dpx_base.specs.declared.link.Link.{Link}
@@ -55,7 +56,8 @@ Rounds phase [] = λ history. history ≡ []
 Rounds phase (status ∷ statuses) = Joins (Round phase (Ok status)) (Rounds phase statuses)
 
 -- this is tried, and fails
-pub record Fails {A B E : Type 0} (part : Result A E → List Entry → Type 0) (given : Result B E) (history : List Entry) : Type 0 where
+pub record Fails {A B E : Type 0} (part : Result A E → List Entry → Type 0) (given : Result B E)
+    (history : List Entry) : Type 0 where
   pub why : E
   pub same : given ≡ Err why
   pub failed : part (Err why) history
@@ -97,7 +99,8 @@ Runs phase chosen drive = do
   Follows phase
 
 -- the whole phase
-pub record Takes (phase : Phase) (chosen : Pattern) (drive : List ℕ) (given : PhaseEnd) (history : List Entry) : Type 0 where
+pub record Takes (phase : Phase) (chosen : Pattern) (drive : List ℕ) (given : PhaseEnd) (history : List Entry)
+    : Type 0 where
   pub result : Result PhaseEnd AuxEnd
   pub same : given ≡ as_end result
   pub done : Runs phase chosen drive result history
@@ -133,6 +136,7 @@ EndsRecovery lanes (Aux why) = ⊤
 -- what an end of channel equalisation says of the last status
 abbrev pub EndsEqualisation : Lanes → PhaseEnd → Type 0
 EndsEqualisation lanes (Done drive last) = (cr_done lanes last.bytes ≡ true) × (eq_done lanes last.bytes ≡ true)
-EndsEqualisation lanes (Failed last cause) = (cause ≡ Reads) × (cr_done lanes last.bytes ≡ true) × (eq_done lanes last.bytes ≡ false)
+EndsEqualisation lanes (Failed last cause) =
+    (cause ≡ Reads) × (cr_done lanes last.bytes ≡ true) × (eq_done lanes last.bytes ≡ false)
 EndsEqualisation lanes (Lost last) = cr_done lanes last.bytes ≡ false
 EndsEqualisation lanes (Aux why) = ⊤

@@ -1,4 +1,5 @@
-ghost use Rattle.std.specs.Prelude.{◌≡◌, ℕ, ◌+◌, ◌-◌, ◌^◌, ◌<◌, ◌≤◌, List, [], ◌∷◌, length, vec_capacity, nat_lt, ◌&&◌, IfOk, IfSome, Some};
+ghost use Rattle.std.specs.Prelude.{◌≡◌, ℕ, ◌+◌, ◌-◌, ◌^◌, ◌<◌, ◌≤◌, List, [], ◌∷◌, length, vec_capacity, nat_lt};
+ghost use Rattle.std.specs.Prelude.{◌&&◌, IfOk, IfSome, Some};
 ghost use Rattle.dpx_base.specs.declared.aux_port.Entry.{Entry};
 ghost use Rattle.dpx_base.specs.Port.{PortState, Added};
 ghost use Rattle.dpx_dpcd.specs.SinkPlan.{planned};
