@@ -11,9 +11,10 @@ use Rattle.dpx_sinkmodel.specs.History.{told}
 -- its plan is always told
 abbrev pub state_of : PlanPort → PortState SinkPlan
 state_of port = record {
-    asked = port.asked;
-    history = told port.kept port.entries.items;
-    plan = Some (plan_of port.loaded) }
+  asked = port.asked;
+  history = told port.kept port.entries.items;
+  plan = Some (plan_of port.loaded);
+}
 
 -- the entries that it keeps
 abbrev pub entries_of : PlanPort → List Entry
