@@ -43,12 +43,14 @@ pub fn replay<S: Source, P: LoadPort, O: Sink>(
         → Refused (S.left src.old) (S.left src.new) (O.taken out.old) (O.taken out.new) }
     ensures refused_keeps_sink { result ≡ 3 → aux.new ≡ aux.old }
 
-    // Training: what 0 and 4 say. Whatever the status, the sink is as it was or was trained; it was wherever it could.
+    // Training: what 0 and 4 say. Whatever the status, the sink is as it was or was trained, and a job that has a
+    // reading was trained, but for faults and want of memory.
     ensures ended { SaysEnded result
         → Ended (S.left src.old) (S.left src.new) (P.state aux.new) (O.taken out.old) (O.taken out.new) result }
     ensures sink_kept_or_trained { (aux.new ≡ aux.old)
         ⊎ Loaded (S.left src.old) (S.left src.new) (P.state aux.new) }
-    ensures trained_wherever_asked { IsSome (command_in words.now) → IsSomeAnd (S.left src.old) IsJob → IsClean result
+    ensures trained_wherever_asked { IsSome (command_in words.now) → IsSomeAnd (S.left src.old) IsJob
+        → IsClean result
         → Ended (S.left src.old) (S.left src.new) (P.state aux.new) (O.taken out.old) (O.taken out.new) result }
 
     // Faults come only where their object counted one.
