@@ -8,25 +8,19 @@ use Rattle.dpx_base.specs.declared.rate.Rate.TheVariants.{Rbr, Hbr, Hbr2, Hbr3}
 use Rattle.dpx_base.specs.declared.lanes.Lanes.{Lanes}
 use Rattle.dpx_base.specs.declared.link.Link.{Link}
 use Rattle.dpx_base.specs.Lanes.{lanes_from}
+use Rattle.dpx_base.specs.Rate.{name_of}
 use Rattle.dpx_files.specs.declared.refusal.Field.{Field}
 use Rattle.dpx_files.specs.declared.refusal.Field.TheVariants as field
 use Rattle.dpx_files.specs.Refusal.{wanted, ◌>>=◌}
 use Rattle.dpx_files.specs.Members.{whole_number, object_in}
 
--- a rate's name
-abbrev pub rate_name : Rate → List ℕ
-rate_name Rbr = codes "RBR"
-rate_name Hbr = codes "HBR"
-rate_name Hbr2 = codes "HBR2"
-rate_name Hbr3 = codes "HBR3"
-
--- the rate of that name
+-- the rate of a name
 abbrev pub rate_named : List ℕ → Option Rate
 rate_named name =
-    if bytes_eq name (rate_name Rbr) then Some Rbr
-    else if bytes_eq name (rate_name Hbr) then Some Hbr
-    else if bytes_eq name (rate_name Hbr2) then Some Hbr2
-    else if bytes_eq name (rate_name Hbr3) then Some Hbr3
+    if bytes_eq name (name_of Rbr) then Some Rbr
+    else if bytes_eq name (name_of Hbr) then Some Hbr
+    else if bytes_eq name (name_of Hbr2) then Some Hbr2
+    else if bytes_eq name (name_of Hbr3) then Some Hbr3
     else None
 
 -- `rate`: the name of a rate

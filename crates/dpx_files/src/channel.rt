@@ -3,7 +3,6 @@ ghost use Rattle.serde_json.specs.View.{view};
 ghost use Rattle.dpx_dpcd.specs.Model.{IsCell, AreCells};
 ghost use Rattle.dpx_files.specs.Channel.{channel_of, lanes_at, cell_of, flag_of, level_of, with_lanes};
 
-use crate::link_fields::rate_name;
 use crate::members::elements;
 use dpx_base::Rate;
 use dpx_dpcd::{Cell, Channel};
@@ -30,7 +29,7 @@ fn read_lanes(channel: &Value, rate: Rate) -> Option<[Cell; 4]>
     ensures value { result ≡ lanes_at (view channel.now) rate }
     ensures cells { IfSome result (AreCells 4) }
 {
-    let Some(value) = channel.get(rate_name(rate)) else {
+    let Some(value) = channel.get(rate.name()) else {
         return Some([Cell::new(true, true, 0, 0); 4]);
     };
     match elements(value)? {

@@ -1,7 +1,7 @@
 ghost use Rattle.std.specs.Prelude.{◌≡◌, true, IfOk};
 ghost use Rattle.serde_json.specs.View.{view};
 ghost use Rattle.dpx_base.specs.Lanes.{lanes_from};
-ghost use Rattle.dpx_files.specs.LinkFields.{link_of, rate_of, lanes_of, rate_name, rate_named};
+ghost use Rattle.dpx_files.specs.LinkFields.{link_of, rate_of, lanes_of, rate_named};
 
 use crate::Field;
 use crate::members::object_in;
@@ -59,16 +59,4 @@ fn lanes_from(number: u64) -> Option<Lanes>
         return None;
     };
     Lanes::from_count(count)
-}
-
-/// The name that a rate has in a job.
-pub(crate) fn rate_name(rate: Rate) -> &'static str
-    ensures { result.now ≡ rate_name rate }
-{
-    match rate {
-        Rate::Rbr => "RBR",
-        Rate::Hbr => "HBR",
-        Rate::Hbr2 => "HBR2",
-        Rate::Hbr3 => "HBR3",
-    }
 }
