@@ -94,30 +94,39 @@ impl Sink for FileSink {
 #[cfg(test)]
 mod tests {
     use super::*;
+    use std::process::Abort;
     use std::test::Fail;
 
-    #[test]
-    fn a_file_that_cannot_be_made_is_a_fault_at_each_write(rt: HostRuntime) -> Result<(), Fail> {
-        for mut out in [
-            FileSink::create(&rt, "no folder/report"),
-            FileSink::nothing(),
-        ] {
-            assert_eq!(rt; out.faults, 0);
+    fn fails_at_each_write(rt: &impl Abort, mut out: FileSink) {
+        for faults in [1, 2] {
             assert!(rt; out.write(b"lane").is_err());
-            assert!(rt; out.write(b"lane").is_err());
-            assert_eq!(rt; out.faults, 2);
+            assert_eq!(rt; out.faults, faults);
         }
-        // a file that can be made takes what is written
+    }
+
+    #[test]
+    fn a_file_that_cannot_be_made_is_a_fault_at_each_write(rt: HostRuntime) {
+        fails_at_each_write(&rt, FileSink::create(&rt, "no folder/report"));
+        fails_at_each_write(&rt, FileSink::nothing());
+    }
+
+    fn takes(rt: &impl Abort, out: &mut FileSink, piece: &[u8])
+        requires { 0 < length piece.now }
+    {
+        assert_eq!(rt; out.write(piece), Ok(piece.len()));
+    }
+
+    #[test]
+    fn a_file_takes_what_is_written_and_is_emptied_when_made_again(
+        rt: HostRuntime,
+    ) -> Result<(), Fail> {
         let mut out = FileSink::create(&rt, "report");
-        assert_eq!(rt; out.write(b"lane 0")?, 6);
-        assert_eq!(rt; out.write(b" swing 1")?, 8);
-        assert_eq!(rt; out.faults, 0);
-        let text = fs::read_to_string(&rt, "report")?;
-        assert_eq!(rt; text.as_str(), "lane 0 swing 1");
-        // and is emptied where it is made again
+        takes(&rt, &mut out, b"lane 0");
+        takes(&rt, &mut out, b" swing 1");
+        let report = fs::read_to_string(&rt, "report")?;
+        assert_eq!(rt; report.as_str(), "lane 0 swing 1");
         let _again = FileSink::create(&rt, "report");
-        assert_eq!(rt; fs::read_to_string(&rt, "report")?.len(), 0);
-        fs::remove_file(&rt, "report")?;
+        assert!(rt; fs::read_to_string(&rt, "report")?.is_empty());
         Ok(())
     }
 }

@@ -73,30 +73,39 @@ impl Source for FileSource {
 mod tests {
     use super::*;
     use std::fs;
+    use std::process::Abort;
     use std::test::Fail;
 
+    fn fails_at_each_read(rt: &impl Abort, mut src: FileSource) {
+        for faults in [1, 2] {
+            assert!(rt; src.read(&mut [0; 10]).is_err());
+            assert_eq!(rt; src.faults, faults);
+        }
+    }
+
     #[test]
-    fn a_file_that_is_not_there_is_a_fault_at_each_read(rt: HostRuntime) -> Result<(), Fail> {
-        let mut piece = [0; 10];
-        let mut src = FileSource::open(&rt, "no folder/link.json");
-        assert_eq!(rt; src.faults, 0);
-        assert!(rt; src.read(&mut piece).is_err());
-        assert!(rt; src.read(&mut piece).is_err());
-        assert_eq!(rt; src.faults, 2);
+    fn a_file_that_cannot_be_read_is_a_fault_at_each_read(rt: HostRuntime) {
         // a folder can be opened and not read
-        let mut src = FileSource::open(&rt, ".");
-        assert!(rt; src.read(&mut piece).is_err());
-        assert_eq!(rt; src.faults, 1);
-        // a file that is there is read to its end
+        for name in ["no folder/link.json", "."] {
+            fails_at_each_read(&rt, FileSource::open(&rt, name));
+        }
+        fails_at_each_read(&rt, FileSource::nothing());
+    }
+
+    fn gives(rt: &impl Abort, src: &mut FileSource, wanted: &[u8]) {
+        let mut piece = [0; 10];
+        assert_eq!(rt; src.read(&mut piece), Ok(wanted.len()));
+        assert!(rt; piece.starts_with(wanted));
+    }
+
+    #[test]
+    fn a_file_is_read_to_its_end(rt: HostRuntime) -> Result<(), Fail> {
         fs::write(&rt, "link.json", "{\"link\":null}")?;
         let mut src = FileSource::open(&rt, "link.json");
-        assert_eq!(rt; src.read(&mut piece)?, 10);
-        assert_eq!(rt; piece, *b"{\"link\":nu");
-        assert_eq!(rt; src.read(&mut piece)?, 3);
-        assert!(rt; piece.starts_with(b"ll}"));
-        assert_eq!(rt; src.read(&mut piece)?, 0);
+        gives(&rt, &mut src, b"{\"link\":nu");
+        gives(&rt, &mut src, b"ll}");
+        gives(&rt, &mut src, b"");
         assert_eq!(rt; src.faults, 0);
-        fs::remove_file(&rt, "link.json")?;
         Ok(())
     }
 }

@@ -2,7 +2,7 @@
 
 ghost use Rattle.std.specs.Prelude.{◌<◌};
 
-use dpx_base::{MemSink, MemSource};
+use dpx_base::{MemSink, MemSource, Source};
 use dpx_cli::replay;
 use dpx_sinkmodel::PlanPort;
 use std::alloc::Global;
@@ -33,19 +33,15 @@ pub(crate) fn scripted(alloc: Global, answers: &str) -> Result<String, Fail> {
         r#"{"link":{"rate":"RBR","lanes":1},"sink":{"script":["#,
     )?;
     for (number, answer) in answers.split_whitespace().enumerate() {
-        if number > 0 {
-            text.push_str(",")?;
-        }
-        text.push_str("\"")?;
-        text.push_str(answer)?;
-        text.push_str("\"")?;
+        let comma = if number == 0 { "" } else { "," };
+        write!(text, "{comma}\"{answer}\"")?;
     }
     text.push_str("]}}")?;
     Ok(text)
 }
 
 /// Words of the command line. Spaces stand between them.
-pub(crate) fn words(alloc: Global, text: &str) -> Result<Vec<String>, Fail> {
+fn words(alloc: Global, text: &str) -> Result<Vec<String>, Fail> {
     let mut words = Vec::new(alloc);
     for word in text.split_whitespace() {
         words.push(String::from_str(alloc, word)?)?;
@@ -53,51 +49,73 @@ pub(crate) fn words(alloc: Global, text: &str) -> Result<Vec<String>, Fail> {
     Ok(words)
 }
 
-/// A source of these bytes, which gives so many a read.
-pub(crate) fn source(
-    alloc: Global,
-    bytes: &[u8],
-    step: usize,
-    fails: &[u64],
-) -> Result<MemSource, Fail>
-    requires { 0 < step }
-{
-    Ok(MemSource::new(bytes.to_vec(alloc)?, step, fails.to_vec(alloc)?))
+/// The bytes that a source gives a read, or those that a sink has room for, and the numbers of the calls
+/// that fail.
+#[derive(Clone, Copy)]
+pub(crate) struct Stream<'a> {
+    pub(crate) size: usize,
+    pub(crate) fails: &'a [u64],
 }
 
-/// A sink with room for so many bytes.
-pub(crate) fn sink(alloc: Global, room: usize, fails: &[u64]) -> Result<MemSink, Fail> {
-    Ok(MemSink::new(alloc, room, fails.to_vec(alloc)?)?)
+/// A source in pieces, or a sink with room for each report. No call fails.
+pub(crate) const CALM: Stream<'static> = Stream {
+    size: 1024,
+    fails: &[],
+};
+
+/// What a run of the command leaves.
+#[derive(Drop)]
+pub(crate) struct Ran {
+    printed: String,
+    status: u8,
+    /// Bytes of the job, of at most 64 more.
+    pub(crate) unread: usize,
 }
 
-/// Runs `train` on a job.
-pub(crate) fn train(
+impl Ran {
+    pub(crate) fn ended(&self) -> (&str, u8) {
+        (self.printed.as_str(), self.status)
+    }
+}
+
+/// Runs the command of these words on a job.
+pub(crate) fn run(
     alloc: Global,
-    src: &mut MemSource,
+    command: &str,
+    reads: Stream,
+    writes: Stream,
+    job: &[u8],
     port: &mut PlanPort,
-    out: &mut MemSink,
-) -> Result<u8, Fail> {
-    let words = words(alloc, "train job.json")?;
-    Ok(replay(alloc, words.as_slice(), src, port, out))
-}
-
-/// What was printed.
-pub(crate) fn printed(out: &MemSink) -> Result<&str, Fail> {
-    Ok(str::from_utf8(out.bytes())?)
+) -> Result<Ran, Fail>
+    requires { 0 < reads.size }
+{
+    let words = words(alloc, command)?;
+    let mut src = MemSource::new(job.to_vec(alloc)?, reads.size, reads.fails.to_vec(alloc)?);
+    let mut out = MemSink::new(alloc, writes.size, writes.fails.to_vec(alloc)?)?;
+    let status = replay(alloc, words.as_slice(), &mut src, port, &mut out);
+    Ok(Ran {
+        printed: String::from_str(alloc, str::from_utf8(out.bytes())?)?,
+        status,
+        unread: src.read(&mut [0; 64]).unwrap_or(0),
+    })
 }
 
 /// `train` of this job ends with this report and status.
 pub(crate) fn ends(
     rt: &impl Abort,
     alloc: Global,
-    port: &mut PlanPort,
     job: &str,
-    (report, status): (&str, u8),
+    wanted: (&str, u8),
 ) -> Result<(), Fail> {
-    let mut src = source(alloc, job.as_bytes(), 65_536, &[])?;
-    let mut out = sink(alloc, 1024, &[])?;
-    let given = train(alloc, &mut src, port, &mut out)?;
-    assert_eq!(rt; printed(&out)?, report, "{job}");
-    assert_eq!(rt; given, status, "{job}");
+    let mut port = PlanPort::new(alloc)?;
+    let ran = run(
+        alloc,
+        "train job.json",
+        CALM,
+        CALM,
+        job.as_bytes(),
+        &mut port,
+    )?;
+    assert_eq!(rt; ran.ended(), wanted, "{job}");
     Ok(())
 }

@@ -11,8 +11,6 @@
 mod laws;
 mod reply;
 mod request;
-#[cfg(test)]
-mod tests;
 mod transaction;
 
 pub use laws::one_transaction;

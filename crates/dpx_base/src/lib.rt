@@ -18,8 +18,6 @@ mod mem_source;
 mod rate;
 mod sink;
 mod source;
-#[cfg(test)]
-mod tests;
 
 pub use aux_port::{Answer, AuxPort, Entry};
 pub use bounded_bytes::{BoundedBytes, Bytes20};

@@ -16,8 +16,6 @@ mod plan;
 mod register_file;
 mod registers;
 mod status;
-#[cfg(test)]
-mod tests;
 
 pub use caps::{Caps, CapsBad, has_extended};
 pub use channel::{Cell, Channel};

@@ -15,8 +15,6 @@ mod members;
 mod model;
 mod refusal;
 mod script;
-#[cfg(test)]
-mod tests;
 
 pub use job::{Job, Need, read_job};
 pub use refusal::{Field, JobBad};

@@ -10,8 +10,6 @@
 mod attempt;
 mod fallback;
 mod laws;
-#[cfg(test)]
-mod tests;
 mod train_end;
 mod training;
 

@@ -13,8 +13,6 @@ mod phase_end;
 mod recovery;
 mod steps;
 mod swings;
-#[cfg(test)]
-mod tests;
 
 pub use equalisation::equalise;
 pub use laws::{ends_in_time, ends_once, is_decided, is_honest};

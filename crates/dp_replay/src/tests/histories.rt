@@ -3,7 +3,7 @@
 use super::reports::{
     ASKS_FOR_SWING, DEAD, LOUD, NO_CLOCK, NO_CLOCK_ON_LANE_3, NO_EQUALISATION_ON_LANE_2,
 };
-use super::{modelled, scripted, sink, source, train};
+use super::{CALM, modelled, run, scripted};
 use dpx_base::{Answer, Entry};
 use dpx_sinkmodel::PlanPort;
 use std::alloc::Global;
@@ -56,10 +56,15 @@ fn push_answer(text: &mut String, answer: &Answer) -> Result<(), Fail> {
 
 /// What a training of this job asks.
 fn history(alloc: Global, job: &str, told: Told) -> Result<String, Fail> {
-    let mut src = source(alloc, job.as_bytes(), 4096, &[])?;
-    let mut out = sink(alloc, 1024, &[])?;
     let mut port = PlanPort::new(alloc)?;
-    train(alloc, &mut src, &mut port, &mut out)?;
+    run(
+        alloc,
+        "train job.json",
+        CALM,
+        CALM,
+        job.as_bytes(),
+        &mut port,
+    )?;
     let mut text = String::new(alloc);
     for entry in port.history() {
         push_entry(&mut text, entry, told)?;
@@ -100,148 +105,169 @@ wait 400
 80 01 02 00 00 = 00
 ";
 
-#[test]
-fn a_modelled_sink_is_asked_and_answers_entry_by_entry(rt: HostRuntime) -> Result<(), Fail> {
-    let alloc = rt.alloc();
-    let job = modelled(alloc, "HBR3", 4, "")?;
-    assert_eq!(rt; history(alloc, job.as_str(), Told::All)?.as_str(), PERFECT);
-    let job = modelled(alloc, "RBR", 1, LOUD)?;
-    assert_eq!(rt;
-        history(alloc, job.as_str(), Told::All)?.as_str(),
-        LOUD_LANE
-    );
+/// Training of this modelled job is this conversation.
+fn converses(
+    rt: &impl Abort,
+    alloc: Global,
+    (rate, lanes, more): (&str, u8, &str),
+    expected: &str,
+) -> Result<(), Fail> {
+    let job = modelled(alloc, rate, lanes, more)?;
+    let given = history(alloc, job.as_str(), Told::All)?;
+    assert_eq!(rt; given.as_str(), expected);
     Ok(())
 }
 
-/// The whole conversation with a modelled sink.
-#[derive(Drop)]
-struct Expected {
-    text: String,
+#[test]
+fn a_modelled_sink_is_asked_and_answers_entry_by_entry(rt: HostRuntime) -> Result<(), Fail> {
+    converses(&rt, rt.alloc(), ("HBR3", 4, ""), PERFECT)?;
+    converses(&rt, rt.alloc(), ("RBR", 1, LOUD), LOUD_LANE)
 }
 
-impl Expected {
-    /// The capabilities, their extended field, the power.
-    fn new(alloc: Global) -> Result<Expected, Fail> {
-        let text = String::from_str(
-            alloc,
-            "90 00 00 0F = 00 12 14 C4 81 00 00 00 00 00 00 00 00 00 00 80 00\n\
-            90 22 00 0F = 00 14 1E C4 81 00 00 00 00 00 00 00 00 00 00 80 00\n\
-            80 06 00 00 01 = 00\n",
-        )?;
-        Ok(Expected { text })
-    }
+/// How often a phase reads the status, and what it reads each time.
+type Reads = (u8, &'static str);
 
-    /// The link registers.
-    fn configure(&mut self, rate: u8, lanes: u8) -> Result<(), Fail> {
-        let enhanced = lanes | 0x80;
-        write!(
-            self.text,
-            "80 01 00 01 {rate:02X} {enhanced:02X} = 00\n80 01 07 01 00 01 = 00\n"
-        )?;
-        Ok(())
-    }
+/// An attempt with the least drive.
+#[derive(Clone, Copy)]
+struct Attempt {
+    rate: u8,
+    lanes: u8,
+    recovery: Reads,
+    equalisation: Option<Reads>,
+}
 
-    /// A pattern with the least drive.
-    fn start(&mut self, pattern: &str, lanes: u8) -> Result<(), Fail> {
-        write!(self.text, "80 01 02 {lanes:02X} {pattern}")?;
-        self.drives(lanes)
-    }
+/// The capabilities, their extended field, the power.
+const OPENING: &str = "\
+90 00 00 0F = 00 12 14 C4 81 00 00 00 00 00 00 00 00 00 00 80 00
+90 22 00 0F = 00 14 1E C4 81 00 00 00 00 00 00 00 00 00 00 80 00
+80 06 00 00 01 = 00
+";
 
-    fn drives(&mut self, lanes: u8) -> Result<(), Fail> {
-        for _ in 0..lanes {
-            self.text.push_str(" 00")?;
-        }
-        self.text.push_str(" = 00\n")?;
-        Ok(())
+/// The conversation of these attempts.
+fn conversation(alloc: Global, attempts: &[Attempt]) -> Result<String, Fail> {
+    let mut text = String::from_str(alloc, OPENING)?;
+    for attempt in attempts {
+        push_attempt(&mut text, *attempt)?;
     }
+    text.push_str("80 01 02 00 00 = 00\n")?;
+    Ok(text)
+}
 
-    /// The same status so many times, each after a wait; the least drive is written between them.
-    fn statuses(&mut self, count: u8, status: &str, micros: u32, lanes: u8) -> Result<(), Fail> {
-        for number in 0..count {
-            if number > 0 {
-                let last = lanes.saturating_sub(1);
-                write!(self.text, "80 01 03 {last:02X}")?;
-                self.drives(lanes)?;
-            }
-            write!(self.text, "wait {micros}\n90 02 02 05 = 00 {status}\n")?;
-        }
-        Ok(())
-    }
-
-    /// Recovery, which reads this status so many times.
-    fn recovery(&mut self, lanes: u8, count: u8, status: &str) -> Result<(), Fail> {
-        self.start("21", lanes)?;
-        self.statuses(count, status, 100, lanes)
-    }
-
-    /// Equalisation, which reads this status so many times.
-    fn equalisation(&mut self, lanes: u8, count: u8, status: &str) -> Result<(), Fail> {
-        self.start("07", lanes)?;
-        self.statuses(count, status, 400, lanes)
-    }
-
-    fn end(&mut self) -> Result<(), Fail> {
-        self.text.push_str("80 01 02 00 00 = 00\n")?;
-        Ok(())
+fn push_attempt(text: &mut String, attempt: Attempt) -> Result<(), Fail> {
+    let rate = attempt.rate;
+    let lanes = attempt.lanes;
+    let enhanced = lanes | 0x80;
+    write!(
+        text,
+        "80 01 00 01 {rate:02X} {enhanced:02X} = 00\n80 01 07 01 00 01 = 00\n"
+    )?;
+    push_phase(text, lanes, ("21", 100), attempt.recovery)?;
+    match attempt.equalisation {
+        Some(reads) => push_phase(text, lanes, ("07", 400), reads),
+        None => Ok(()),
     }
 }
 
-const RBR: u8 = 0x06;
+/// A pattern, and the reads. Each comes after a wait; the drive is written between them.
+fn push_phase(
+    text: &mut String,
+    lanes: u8,
+    (pattern, micros): (&str, u32),
+    (count, status): Reads,
+) -> Result<(), Fail> {
+    write!(text, "80 01 02 {lanes:02X} {pattern}")?;
+    push_drives(text, lanes)?;
+    for number in 0..count {
+        if number > 0 {
+            let last = lanes.saturating_sub(1);
+            write!(text, "80 01 03 {last:02X}")?;
+            push_drives(text, lanes)?;
+        }
+        write!(text, "wait {micros}\n90 02 02 05 = 00 {status}\n")?;
+    }
+    Ok(())
+}
 
-const HBR: u8 = 0x0A;
+fn push_drives(text: &mut String, lanes: u8) -> Result<(), Fail> {
+    for _ in 0..lanes {
+        text.push_str(" 00")?;
+    }
+    text.push_str(" = 00\n")?;
+    Ok(())
+}
 
-const HBR2: u8 = 0x14;
+const LOWER_RATE: [Attempt; 2] = [
+    Attempt {
+        rate: 0x1E,
+        lanes: 4,
+        recovery: (5, "11 01 00 00 00 00"),
+        equalisation: None,
+    },
+    Attempt {
+        rate: 0x14,
+        lanes: 4,
+        recovery: (1, "11 11 00 00 00 00"),
+        equalisation: Some((1, "77 77 01 00 00 00")),
+    },
+];
 
-const HBR3: u8 = 0x1E;
+const FEWER_LANES: [Attempt; 2] = [
+    Attempt {
+        rate: 0x14,
+        lanes: 4,
+        recovery: (1, "11 11 00 00 00 00"),
+        equalisation: Some((5, "77 71 00 00 00 00")),
+    },
+    Attempt {
+        rate: 0x14,
+        lanes: 2,
+        recovery: (1, "11 00 00 00 00 00"),
+        equalisation: Some((1, "77 00 01 00 00 00")),
+    },
+];
 
 #[test]
 fn no_clock_lowers_the_rate(rt: HostRuntime) -> Result<(), Fail> {
-    let alloc = rt.alloc();
-    let mut expected = Expected::new(alloc)?;
-    expected.configure(HBR3, 4)?;
-    expected.recovery(4, 5, "11 01 00 00 00 00")?;
-    expected.configure(HBR2, 4)?;
-    expected.recovery(4, 1, "11 11 00 00 00 00")?;
-    expected.equalisation(4, 1, "77 77 01 00 00 00")?;
-    expected.end()?;
-    let job = modelled(alloc, "HBR3", 4, NO_CLOCK_ON_LANE_3)?;
-    let given = history(alloc, job.as_str(), Told::All)?;
-    assert_eq!(rt; given.as_str(), expected.text.as_str());
-    Ok(())
+    let expected = conversation(rt.alloc(), &LOWER_RATE)?;
+    let job = ("HBR3", 4, NO_CLOCK_ON_LANE_3);
+    converses(&rt, rt.alloc(), job, expected.as_str())
 }
 
 #[test]
 fn no_equalisation_halves_the_lanes(rt: HostRuntime) -> Result<(), Fail> {
-    let alloc = rt.alloc();
-    let mut expected = Expected::new(alloc)?;
-    expected.configure(HBR2, 4)?;
-    expected.recovery(4, 1, "11 11 00 00 00 00")?;
-    expected.equalisation(4, 5, "77 71 00 00 00 00")?;
-    expected.configure(HBR2, 2)?;
-    expected.recovery(2, 1, "11 00 00 00 00 00")?;
-    expected.equalisation(2, 1, "77 00 01 00 00 00")?;
-    expected.end()?;
-    let job = modelled(alloc, "HBR2", 4, NO_EQUALISATION_ON_LANE_2)?;
-    let given = history(alloc, job.as_str(), Told::All)?;
-    assert_eq!(rt; given.as_str(), expected.text.as_str());
-    Ok(())
+    let expected = conversation(rt.alloc(), &FEWER_LANES)?;
+    let job = ("HBR2", 4, NO_EQUALISATION_ON_LANE_2);
+    converses(&rt, rt.alloc(), job, expected.as_str())
+}
+
+/// Never a clock.
+fn dead(rate: u8, lanes: u8) -> Attempt {
+    Attempt {
+        rate,
+        lanes,
+        recovery: (5, "00 00 00 00 00 00"),
+        equalisation: None,
+    }
 }
 
 #[test]
 fn a_dead_channel_is_tried_at_each_rate_and_number_of_lanes(rt: HostRuntime) -> Result<(), Fail> {
-    let alloc = rt.alloc();
-    let mut expected = Expected::new(alloc)?;
-    for lanes in [4, 2, 1] {
-        for rate in [HBR3, HBR2, HBR, RBR] {
-            expected.configure(rate, lanes)?;
-            expected.recovery(lanes, 5, "00 00 00 00 00 00")?;
-        }
-    }
-    expected.end()?;
-    let job = modelled(alloc, "HBR3", 4, DEAD)?;
-    let given = history(alloc, job.as_str(), Told::All)?;
-    assert_eq!(rt; given.as_str(), expected.text.as_str());
-    Ok(())
+    let attempts = [
+        dead(0x1E, 4),
+        dead(0x14, 4),
+        dead(0x0A, 4),
+        dead(0x06, 4),
+        dead(0x1E, 2),
+        dead(0x14, 2),
+        dead(0x0A, 2),
+        dead(0x06, 2),
+        dead(0x1E, 1),
+        dead(0x14, 1),
+        dead(0x0A, 1),
+        dead(0x06, 1),
+    ];
+    let expected = conversation(rt.alloc(), &attempts)?;
+    converses(&rt, rt.alloc(), ("HBR3", 4, DEAD), expected.as_str())
 }
 
 const TURNED_UP: &str = "\
@@ -276,27 +302,38 @@ const NEVER_RECOVERED: &str = "\
 80 01 02 00 00
 ";
 
-#[test]
-fn a_scripted_sink_gets_the_drives_that_it_asks_for(rt: HostRuntime) -> Result<(), Fail> {
-    let alloc = rt.alloc();
-    let job = scripted(alloc, ASKS_FOR_SWING)?;
-    let given = history(alloc, job.as_str(), Told::Requests)?;
-    assert_eq!(rt; given.as_str(), TURNED_UP);
-    let job = scripted(alloc, NO_CLOCK)?;
-    let given = history(alloc, job.as_str(), Told::Requests)?;
-    assert_eq!(rt; given.as_str(), NEVER_RECOVERED);
+const SILENCE: &str = "\
+90 00 00 0F = silent
+90 00 00 0F = silent
+90 00 00 0F = silent
+90 00 00 0F = silent
+90 00 00 0F = silent
+90 00 00 0F = silent
+90 00 00 0F = silent
+90 00 00 0F = silent
+";
+
+/// Training with this script has this history.
+fn asks(
+    rt: &impl Abort,
+    alloc: Global,
+    answers: &str,
+    told: Told,
+    expected: &str,
+) -> Result<(), Fail> {
+    let job = scripted(alloc, answers)?;
+    let given = history(alloc, job.as_str(), told)?;
+    assert_eq!(rt; given.as_str(), expected);
     Ok(())
 }
 
 #[test]
+fn a_scripted_sink_gets_the_drives_that_it_asks_for(rt: HostRuntime) -> Result<(), Fail> {
+    asks(&rt, rt.alloc(), ASKS_FOR_SWING, Told::Requests, TURNED_UP)?;
+    asks(&rt, rt.alloc(), NO_CLOCK, Told::Requests, NEVER_RECOVERED)
+}
+
+#[test]
 fn silence_is_asked_eight_times(rt: HostRuntime) -> Result<(), Fail> {
-    let alloc = rt.alloc();
-    let mut expected = String::new(alloc);
-    for _ in 0..8 {
-        expected.push_str("90 00 00 0F = silent\n")?;
-    }
-    let job = scripted(alloc, "")?;
-    let given = history(alloc, job.as_str(), Told::All)?;
-    assert_eq!(rt; given.as_str(), expected.as_str());
-    Ok(())
+    asks(&rt, rt.alloc(), "", Told::All, SILENCE)
 }

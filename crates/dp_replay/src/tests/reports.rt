@@ -1,15 +1,23 @@
-use super::{ends, modelled, printed, scripted, sink, source, words};
-use dpx_cli::replay;
+use super::{CALM, ends, modelled, run, scripted};
 use dpx_sinkmodel::PlanPort;
+use std::alloc::Global;
+use std::process::Abort;
 use std::test::Fail;
 
 const USAGE: &str = "usage: dp_replay train JOB | send JOB PIXELS CAPTURE [one|lanes] \
     | run JOB PIXELS CAPTURE [one|lanes] | recv CAPTURE PIXELS [one|lanes] | gen SEED [one|lanes]\n";
 
+/// These words have no reading.
+fn is_usage(rt: &impl Abort, alloc: Global, words: &str) -> Result<(), Fail> {
+    let mut port = PlanPort::new(alloc)?;
+    let ran = run(alloc, words, CALM, CALM, b"{}", &mut port)?;
+    assert_eq!(rt; ran.ended(), (USAGE, 2), "{words}");
+    Ok(())
+}
+
 #[test]
 fn words_without_a_reading_are_usage(rt: HostRuntime) -> Result<(), Fail> {
-    let alloc = rt.alloc();
-    for text in [
+    for words in [
         "",
         "train",
         "--help",
@@ -18,40 +26,25 @@ fn words_without_a_reading_are_usage(rt: HostRuntime) -> Result<(), Fail> {
         "Train a",
         "job.json train",
     ] {
-        let words = words(alloc, text)?;
-        let mut src = source(alloc, b"{}", 1, &[])?;
-        let mut out = sink(alloc, 1024, &[])?;
-        let mut port = PlanPort::new(alloc)?;
-        let status = replay(alloc, words.as_slice(), &mut src, &mut port, &mut out);
-        assert_eq!(rt; printed(&out)?, USAGE, "{text}");
-        assert_eq!(rt; status, 2, "{text}");
+        is_usage(&rt, rt.alloc(), words)?;
     }
     Ok(())
 }
 
 #[test]
 fn jobs_without_a_reading_are_refused(rt: HostRuntime) -> Result<(), Fail> {
-    let alloc = rt.alloc();
-    let mut port = PlanPort::new(alloc)?;
-    ends(&rt, alloc, &mut port, "", ("job not json\n", 3))?;
-    ends(&rt, alloc, &mut port, "{}", ("job wrong link\n", 3))?;
-    ends(&rt, alloc, &mut port, "[]", ("job wrong job\n", 3))?;
-    let job = modelled(alloc, "RBR", 3, "")?;
-    ends(
-        &rt,
-        alloc,
-        &mut port,
-        job.as_str(),
-        ("job wrong lanes\n", 3),
-    )?;
-    let job = modelled(alloc, "RBR", 1, ",\"channel\":0")?;
-    ends(
-        &rt,
-        alloc,
-        &mut port,
-        job.as_str(),
-        ("job wrong channel\n", 3),
-    )?;
+    for (job, report) in [
+        ("", "job not json\n"),
+        ("{}", "job wrong link\n"),
+        ("[]", "job wrong job\n"),
+        (r#"{"link":{"rate":"RBR","lanes":3}}"#, "job wrong lanes\n"),
+        (
+            r#"{"link":{"rate":"RBR","lanes":1},"sink":{"model":{}}}"#,
+            "job wrong caps\n",
+        ),
+    ] {
+        ends(&rt, rt.alloc(), job, (report, 3))?;
+    }
     Ok(())
 }
 
@@ -137,37 +130,40 @@ const SCRIPTS: [Scripted; 11] = [
     ("0012", "aux spent at 00000 last silent requests 8\n", 4),
 ];
 
+fn script_ends(
+    rt: &impl Abort,
+    alloc: Global,
+    answers: &str,
+    wanted: (&str, u8),
+) -> Result<(), Fail> {
+    let job = scripted(alloc, answers)?;
+    ends(rt, alloc, job.as_str(), wanted)
+}
+
 #[test]
 fn scripted_sinks_are_reported_as_they_answer(rt: HostRuntime) -> Result<(), Fail> {
-    let alloc = rt.alloc();
-    let mut port = PlanPort::new(alloc)?;
     for (answers, report, status) in SCRIPTS {
-        let job = scripted(alloc, answers)?;
-        ends(&rt, alloc, &mut port, job.as_str(), (report, status))?;
+        script_ends(&rt, rt.alloc(), answers, (report, status))?;
     }
     Ok(())
 }
 
+/// Each answer behind seven defers.
+fn deferred(alloc: Global, answers: &str) -> Result<String, Fail> {
+    let mut text = String::new(alloc);
+    for answer in answers.split_whitespace() {
+        write!(text, "20 20 20 20 20 20 20 {answer} ")?;
+    }
+    Ok(text)
+}
+
 #[test]
 fn seven_defers_before_each_answer_are_waited_out(rt: HostRuntime) -> Result<(), Fail> {
-    let alloc = rt.alloc();
-    let mut answers = String::new(alloc);
-    for answer in DONE_AT_ONCE.split_whitespace() {
-        answers.push_str("20 20 20 20 20 20 20 ")?;
-        answers.push_str(answer)?;
-        answers.push_str(" ")?;
-    }
-    let job = scripted(alloc, answers.as_str())?;
+    let answers = deferred(rt.alloc(), DONE_AT_ONCE)?;
     let report = "trained RBR 1 requests 72\n\
         lane 0 swing 0 emphasis 0\n\
         last 07 00 01 00 00 00\n";
-    ends(
-        &rt,
-        alloc,
-        &mut PlanPort::new(alloc)?,
-        job.as_str(),
-        (report, 0),
-    )
+    script_ends(&rt, rt.alloc(), answers.as_str(), (report, 0))
 }
 
 /// The rate and the lanes that a job asks for, the members of its model behind the capabilities,
@@ -270,24 +266,30 @@ const MODELS: [Modelled; 7] = [
     ),
 ];
 
+fn model_ends(
+    rt: &impl Abort,
+    alloc: Global,
+    (rate, lanes, more): (&str, u8, &str),
+    wanted: (&str, u8),
+) -> Result<(), Fail> {
+    let job = modelled(alloc, rate, lanes, more)?;
+    ends(rt, alloc, job.as_str(), wanted)
+}
+
 #[test]
 fn modelled_sinks_are_reported_as_their_channels_are(rt: HostRuntime) -> Result<(), Fail> {
-    let alloc = rt.alloc();
-    let mut port = PlanPort::new(alloc)?;
     for (rate, lanes, more, report, status) in MODELS {
-        let job = modelled(alloc, rate, lanes, more)?;
-        ends(&rt, alloc, &mut port, job.as_str(), (report, status))?;
+        model_ends(&rt, rt.alloc(), (rate, lanes, more), (report, status))?;
     }
     Ok(())
 }
 
 #[test]
 fn a_rate_between_two_codes_counts_as_the_lower(rt: HostRuntime) -> Result<(), Fail> {
-    let alloc = rt.alloc();
     let job =
         r#"{"link":{"rate":"HBR3","lanes":1},"sink":{"model":{"caps":"12198100000000000000000000000000"}}}"#;
     let report = "trained HBR2 1 requests 9\n\
         lane 0 swing 0 emphasis 0\n\
         last 07 00 01 00 00 00\n";
-    ends(&rt, alloc, &mut PlanPort::new(alloc)?, job, (report, 0))
+    ends(&rt, rt.alloc(), job, (report, 0))
 }

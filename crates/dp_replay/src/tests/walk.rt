@@ -2,8 +2,8 @@
 //! fault.
 
 use super::{ends, modelled};
-use dpx_sinkmodel::PlanPort;
 use std::alloc::Global;
+use std::process::Abort;
 use std::test::Fail;
 
 const RATES: [&str; 4] = ["RBR", "HBR", "HBR2", "HBR3"];
@@ -71,19 +71,25 @@ impl Sample {
         for (rate, fault) in RATES.iter().zip(&self.faults) {
             let comma = if *rate == "RBR" { "" } else { "," };
             write!(text, "{comma}\"{rate}\":[")?;
-            for lane in 0..4usize {
-                let cell = match fault {
-                    Fault::NoClock if lane == self.lane => "[0,1,0,0]",
-                    Fault::NoEqualisation if lane == self.lane => "[1,0,0,0]",
-                    _ => "[1,1,0,0]",
-                };
-                text.push_str(if lane == 0 { "" } else { "," })?;
-                text.push_str(cell)?;
-            }
+            self.push_cells(&mut text, *fault)?;
             text.push_str("]")?;
         }
         text.push_str("}")?;
         Ok(text)
+    }
+
+    /// The four lanes at a rate where the lane has this fault.
+    fn push_cells(&self, text: &mut String, fault: Fault) -> Result<(), Fail> {
+        for lane in 0..4usize {
+            let comma = if lane == 0 { "" } else { "," };
+            let cell = match fault {
+                Fault::NoClock if lane == self.lane => "[0,1,0,0]",
+                Fault::NoEqualisation if lane == self.lane => "[1,0,0,0]",
+                _ => "[1,1,0,0]",
+            };
+            write!(text, "{comma}{cell}")?;
+        }
+        Ok(())
     }
 
     /// Whether there is a fault above the rate that the job asks for.
@@ -183,27 +189,23 @@ fn trained(alloc: Global, at: Configuration, requests: usize) -> Result<String, 
     Ok(text)
 }
 
+/// The training of this sample ends where the computation says.
+fn ends_as_computed(rt: &impl Abort, alloc: Global, sample: &Sample) -> Result<(), Fail> {
+    let rate = RATES[sample.top.rate % 4];
+    let lanes = (sample.top.lanes % 8) as u8;
+    let more = sample.members(alloc)?;
+    let job = modelled(alloc, rate, lanes, more.as_str())?;
+    let (report, status) = sample.outcome(alloc)?;
+    ends(rt, alloc, job.as_str(), (report.as_str(), status))
+}
+
 #[test]
 fn trainings_end_where_a_plain_computation_says(rt: HostRuntime) -> Result<(), Fail> {
-    let alloc = rt.alloc();
-    let mut port = PlanPort::new(alloc)?;
     for number in 0..SAMPLES {
         let sample = numbered_sample(number);
-        if sample.has_hidden_fault() {
-            continue;
+        if !sample.has_hidden_fault() {
+            ends_as_computed(&rt, rt.alloc(), &sample)?;
         }
-        let rate = RATES[sample.top.rate % 4];
-        let lanes = (sample.top.lanes % 8) as u8;
-        let more = sample.members(alloc)?;
-        let job = modelled(alloc, rate, lanes, more.as_str())?;
-        let (report, status) = sample.outcome(alloc)?;
-        ends(
-            &rt,
-            alloc,
-            &mut port,
-            job.as_str(),
-            (report.as_str(), status),
-        )?;
     }
     Ok(())
 }

@@ -1,6 +1,6 @@
 //! Jobs, good and bad, as tables: a frame, what is wrong, and the pieces that make it so.
 
-use crate::{JobBad, Need, read_job};
+use dpx_files::{JobBad, Need, read_job};
 use std::alloc::Global;
 use std::process::Abort;
 use std::test::Fail;
@@ -12,6 +12,9 @@ mod text;
 
 /// What stands before and behind a piece of a job.
 pub(crate) type Frame = (&'static str, &'static str);
+
+/// A frame, how a job is read with each of the pieces in it, and the pieces.
+pub(crate) type Row = (Frame, &'static str, &'static str);
 
 pub(crate) const WHOLE: Frame = ("", "");
 
@@ -63,4 +66,14 @@ pub(crate) fn repeated(
     }
     text.push_str(behind)?;
     Ok(text)
+}
+
+#[test]
+fn a_job_is_read_or_refused_by_its_first_fault(rt: HostRuntime) -> Result<(), Fail> {
+    for rows in [text::ROWS, link::ROWS, sink::ROWS, model::ROWS] {
+        for (frame, wanted, pieces) in rows {
+            ends(&rt, rt.alloc(), *frame, wanted, pieces)?;
+        }
+    }
+    Ok(())
 }

@@ -1,7 +1,7 @@
 ghost use Rattle.std.specs.Prelude.{◌+◌, ◌^◌, ◌≤◌, length};
 ghost use Rattle.dpx_aux.specs.Request.{IsValid};
 
-use crate::{
+use dpx_aux::{
     AuxBad, AuxEnd, Data16, LastAnswer, Reply, Request, encode_request, read_reply, read_request,
     transact,
 };

@@ -1,5 +1,6 @@
-use super::{Frame, WHOLE, ends};
-use std::test::Fail;
+//! The link comes first.
+
+use super::{Frame, Row, WHOLE};
 
 const RATE: Frame = (
     r#"{"link":{"lanes":1,"rate":"#,
@@ -28,14 +29,12 @@ const BAD_LANES: &str = r#"0; 3; 5; 8; 257; 258; -1; -0; 1.0; 1e0; 1.5; "1"; nul
 
 const GOOD_LANES: &str = r#"1; 2; 4; 3,"lanes":1; 1,"x":-1.5e3"#;
 
-#[test]
-fn a_link_is_read_first(rt: HostRuntime) -> Result<(), Fail> {
-    let alloc = rt.alloc();
-    ends(&rt, alloc, WHOLE, "link", NO_LINK)?;
-    ends(&rt, alloc, WHOLE, "rate", NO_RATE)?;
-    ends(&rt, alloc, RATE, "rate", BAD_RATES)?;
-    ends(&rt, alloc, RATE, "ok", RATES)?;
-    ends(&rt, alloc, WHOLE, "lanes", r#"{"link":{"rate":"RBR"}}"#)?;
-    ends(&rt, alloc, LANES, "lanes", BAD_LANES)?;
-    ends(&rt, alloc, LANES, "ok", GOOD_LANES)
-}
+pub(crate) const ROWS: &[Row] = &[
+    (WHOLE, "link", NO_LINK),
+    (WHOLE, "rate", NO_RATE),
+    (RATE, "rate", BAD_RATES),
+    (RATE, "ok", RATES),
+    (WHOLE, "lanes", r#"{"link":{"rate":"RBR"}}"#),
+    (LANES, "lanes", BAD_LANES),
+    (LANES, "ok", GOOD_LANES),
+];

@@ -1,11 +1,12 @@
-ghost use Rattle.std.specs.Prelude.{◌≡◌, ◌<◌};
+ghost use Rattle.std.specs.Prelude.{◌≡◌};
 
-use crate::{
-    AnswerList, Caps, CapsBad, Cell, Channel, Pattern, Status6, has_extended, read_block,
-    read_status, write_registers,
-};
+use super::behaves;
 use dpx_aux::{AuxEnd, LastAnswer};
 use dpx_base::{Answer, AuxPort, Bytes20, Lanes, Link, Rate};
+use dpx_dpcd::{
+    Caps, CapsBad, Cell, Channel, Pattern, Status6, has_extended, read_block, read_status,
+    write_registers,
+};
 use std::process::Abort;
 use std::test::Fail;
 
@@ -117,72 +118,63 @@ fn highest_known_pattern_is_the_one_for_equalisation(rt: HostRuntime) -> Result<
     Ok(())
 }
 
-fn status(lanes: [u8; 2], align: u8, requests: [u8; 2]) -> Status6 {
-    Status6 {
-        bytes: [lanes[0], lanes[1], align, 0, requests[0], requests[1]],
-    }
-}
-
 #[test]
 fn status_says_what_the_lanes_in_use_have_reached(rt: HostRuntime) {
     let rows = [
-        (Lanes::One, [0x00, 0x00], 0x01, (false, false)),
-        (Lanes::One, [0x01, 0x00], 0x01, (true, false)),
-        (Lanes::One, [0x07, 0x00], 0x01, (true, true)),
-        (Lanes::One, [0x0f, 0x00], 0x81, (true, true)),
+        (Lanes::One, [0x00, 0x00, 0x01], (false, false)),
+        (Lanes::One, [0x01, 0x00, 0x01], (true, false)),
+        (Lanes::One, [0x07, 0x00, 0x01], (true, true)),
+        (Lanes::One, [0x0f, 0x00, 0x81], (true, true)),
         // alignment is bit 0 alone
-        (Lanes::One, [0x07, 0x00], 0x00, (true, false)),
-        (Lanes::Four, [0x77, 0x77], 0xfe, (true, false)),
+        (Lanes::One, [0x07, 0x00, 0x00], (true, false)),
+        (Lanes::Four, [0x77, 0x77, 0xfe], (true, false)),
         // the lower lane has the low bits
-        (Lanes::One, [0x70, 0x77], 0x01, (false, false)),
-        (Lanes::Two, [0x07, 0x77], 0x01, (false, false)),
-        (Lanes::Two, [0x77, 0x00], 0x01, (true, true)),
-        (Lanes::Four, [0x77, 0x07], 0x01, (false, false)),
-        (Lanes::Four, [0x77, 0x70], 0x01, (false, false)),
-        (Lanes::Four, [0x77, 0x77], 0x01, (true, true)),
+        (Lanes::One, [0x70, 0x77, 0x01], (false, false)),
+        (Lanes::Two, [0x07, 0x77, 0x01], (false, false)),
+        (Lanes::Two, [0x77, 0x00, 0x01], (true, true)),
+        (Lanes::Four, [0x77, 0x07, 0x01], (false, false)),
+        (Lanes::Four, [0x77, 0x70, 0x01], (false, false)),
+        (Lanes::Four, [0x77, 0x77, 0x01], (true, true)),
         // one lane without its equalisation, its symbols, its clock
-        (Lanes::Two, [0x57, 0x00], 0x01, (true, false)),
-        (Lanes::Four, [0x77, 0x73], 0x01, (true, false)),
-        (Lanes::Four, [0x77, 0x67], 0x01, (false, false)),
+        (Lanes::Two, [0x57, 0x00, 0x01], (true, false)),
+        (Lanes::Four, [0x77, 0x73, 0x01], (true, false)),
+        (Lanes::Four, [0x77, 0x67, 0x01], (false, false)),
     ];
-    for (lanes, bytes, align, reached) in rows {
-        let status = status(bytes, align, [0; 2]);
+    for (lanes, [first, second, align], reached) in rows {
+        let status = Status6 {
+            bytes: [first, second, align, 0, 0, 0],
+        };
         let said = (status.cr_done(lanes), status.eq_done(lanes));
-        assert_eq!(rt; said, reached, "{lanes:?} {bytes:?} {align}");
+        assert_eq!(rt; said, reached, "{status:?} on {lanes:?}");
     }
+}
+
+fn drives(rt: &impl Abort, lanes: Lanes, asked: [u8; 2], drive: [u8; 4]) {
+    let [first, second] = asked;
+    let status = Status6 {
+        bytes: [0, 0, 0, 0, first, second],
+    };
+    assert_eq!(rt;
+        status.level(lanes).registers,
+        drive,
+        "{asked:?} on {lanes:?}"
+    );
 }
 
 #[test]
 fn drive_is_what_the_lanes_in_use_ask_for(rt: HostRuntime) {
-    // for each emphasis asked for, what swings of 0 to 3 leave of it
-    let drives = [
-        [0x00, 0x01, 0x02, 0x27],
-        [0x08, 0x09, 0x2a, 0x27],
-        [0x10, 0x31, 0x2a, 0x27],
-        [0x38, 0x31, 0x2a, 0x27],
-    ];
-    for (emphasis, drives) in drives.iter().enumerate() {
-        for (swing, drive) in drives.iter().enumerate() {
-            let asked = (swing + 4 * emphasis) as u8;
-            let level = status([0; 2], 0, [asked, 0]).level(Lanes::One);
-            assert_eq!(rt; level.registers, [*drive, 0, 0, 0], "at {asked}");
-        }
-    }
+    // for emphasis 0 to 3 and each swing asked for: the swing, and what it leaves of the emphasis
     let rows = [
-        (Lanes::One, [0x27, 0x00, 0x00, 0x00]),
-        (Lanes::Two, [0x27, 0x2a, 0x00, 0x00]),
-        (Lanes::Four, [0x27, 0x2a, 0x31, 0x08]),
+        0x00, 0x01, 0x02, 0x27, 0x08, 0x09, 0x2a, 0x27, 0x10, 0x31, 0x2a, 0x27, 0x38, 0x31, 0x2a,
+        0x27,
     ];
-    for (lanes, drive) in rows {
-        let level = status([0; 2], 0, [0xa3, 0x4d]).level(lanes);
-        assert_eq!(rt; level.registers, drive, "{lanes:?}");
+    for (asked, drive) in rows.iter().enumerate() {
+        drives(&rt, Lanes::One, [asked as u8, 0], [*drive, 0, 0, 0]);
     }
-}
-
-fn behaves(rt: &impl Abort, channel: &Channel, rate: Rate, lane: u8, cell: Cell)
-    requires { lane < 4 }
-{
-    assert_eq!(rt; channel.cell(rate, lane), cell, "{rate:?} {lane}");
+    let asked = [0xa3, 0x4d];
+    drives(&rt, Lanes::One, asked, [0x27, 0x00, 0x00, 0x00]);
+    drives(&rt, Lanes::Two, asked, [0x27, 0x2a, 0x00, 0x00]);
+    drives(&rt, Lanes::Four, asked, [0x27, 0x2a, 0x31, 0x08]);
 }
 
 #[test]
@@ -200,19 +192,6 @@ fn each_rate_and_lane_has_a_cell_of_its_own(rt: HostRuntime) {
     behaves(&rt, &channel, Rate::Hbr3, 0, good);
     behaves(&rt, &channel, Rate::Hbr, 3, good);
     behaves(&rt, &channel, Rate::Rbr, 3, good);
-}
-
-#[test]
-fn answers_stay_in_their_order(rt: HostRuntime) -> Result<(), Fail> {
-    let mut answers = Vec::new(rt.alloc());
-    answers.push(Answer::Silent)?;
-    answers.push(Answer::Bytes(Bytes20::from_slice(&[0x20])))?;
-    let list = AnswerList::from_vec(answers);
-    let [Answer::Silent, Answer::Bytes(bytes)] = list.as_slice() else {
-        return Err(Fail::new("other answers"));
-    };
-    assert_eq!(rt; bytes.as_slice(), [0x20].as_slice());
-    Ok(())
 }
 
 /// Answers a request of these bytes, after one that it defers, and is silent to all others.
@@ -258,59 +237,71 @@ fn port<'a>(request: &'a [u8], reply: &'a [u8]) -> Replies<'a>
     }
 }
 
-#[test]
-fn registers_are_written_and_read_in_one_transaction_each(rt: HostRuntime) {
-    let mut sink = port(&[0x80, 0x01, 0x00, 0x01, 0x1e, 0x84], &[0x00]);
-    assert_eq!(rt; write_registers(&mut sink, 0x0_0100, &[0x1e, 0x84]), Ok(()));
-    assert_eq!(rt; sink.asked(), 2);
-
-    let reply = [
-        0x00, 0x12, 0x14, 0xc4, 0x81, 0, 0, 0, 0, 0, 0, 0, 0, 0, 0, 0x80, 0,
-    ];
-    let mut sink = port(&[0x90, 0x00, 0x00, 0x0f], &reply);
-    assert_eq!(rt; read_block(&mut sink, 0), Ok(HBR2));
-    assert_eq!(rt; sink.asked(), 2);
-
-    let mut sink = port(
-        &[0x90, 0x02, 0x02, 0x05],
-        &[0x00, 0x11, 0x22, 0x80, 0x00, 0x0a, 0xff],
-    );
-    assert_eq!(rt;
-        read_status(&mut sink),
-        Ok(Status6 {
-            bytes: [0x11, 0x22, 0x80, 0x00, 0x0a, 0xff]
-        })
-    );
-    assert_eq!(rt; sink.asked(), 2);
+fn is_written(rt: &impl Abort, sink: &mut Replies, end: Result<(), AuxEnd>)
+    requires { sink.old.asked ≡ 0 }
+{
+    assert_eq!(rt; write_registers(sink, 0x0_0103, &[0x27, 0x2a]), end);
 }
 
+fn is_block(rt: &impl Abort, sink: &mut Replies, end: Result<[u8; 16], AuxEnd>)
+    requires { sink.old.asked ≡ 0 }
+{
+    assert_eq!(rt; read_block(sink, 0x0_2200), end);
+}
+
+fn is_status(rt: &impl Abort, sink: &mut Replies, end: Result<Status6, AuxEnd>)
+    requires { sink.old.asked ≡ 0 }
+{
+    assert_eq!(rt; read_status(sink), end);
+}
+
+const WRITE: [u8; 6] = [0x80, 0x01, 0x03, 0x01, 0x27, 0x2a];
+
+const BLOCK: [u8; 4] = [0x90, 0x22, 0x00, 0x0f];
+
+const STATUS: [u8; 4] = [0x90, 0x02, 0x02, 0x05];
+
 #[test]
-fn failed_transaction_is_handed_on(rt: HostRuntime) {
+fn registers_are_written_in_one_transaction(rt: HostRuntime) {
+    let mut sink = port(&WRITE, &[0x00]);
+    is_written(&rt, &mut sink, Ok(()));
+    assert_eq!(rt; sink.asked, 2);
     let refused = AuxEnd::Refused {
         address: 0x0_0103,
         taken: 1,
     };
-    let mut sink = port(&[0x80, 0x01, 0x03, 0x01, 0x27, 0x2a], &[0x10, 0x01]);
-    assert_eq!(rt;
-        write_registers(&mut sink, 0x0_0103, &[0x27, 0x2a]),
-        Err(refused)
-    );
+    is_written(&rt, &mut port(&WRITE, &[0x10, 0x01]), Err(refused));
+}
 
+#[test]
+fn a_block_is_read_in_one_transaction(rt: HostRuntime) {
+    let reply = [
+        0x00, 0x12, 0x14, 0xc4, 0x81, 0, 0, 0, 0, 0, 0, 0, 0, 0, 0, 0x80, 0,
+    ];
+    let mut sink = port(&BLOCK, &reply);
+    is_block(&rt, &mut sink, Ok(HBR2));
+    assert_eq!(rt; sink.asked, 2);
     let spent = AuxEnd::Spent {
         address: 0x0_2200,
         last: LastAnswer::Silent,
     };
-    assert_eq!(rt; read_block(&mut port(&[], &[]), 0x0_2200), Err(spent));
+    is_block(&rt, &mut port(&[], &[]), Err(spent));
+}
 
+#[test]
+fn a_status_is_read_in_one_transaction(rt: HostRuntime) {
+    let status = Status6 {
+        bytes: [0x11, 0x22, 0x80, 0x00, 0x0a, 0xff],
+    };
+    let mut sink = port(&STATUS, &[0x00, 0x11, 0x22, 0x80, 0x00, 0x0a, 0xff]);
+    is_status(&rt, &mut sink, Ok(status));
+    assert_eq!(rt; sink.asked, 2);
     // five bytes are no status
     let spent = AuxEnd::Spent {
         address: 0x0_0202,
         last: LastAnswer::Malformed,
     };
-    let mut sink = port(
-        &[0x90, 0x02, 0x02, 0x05],
-        &[0x00, 0x77, 0x77, 0x01, 0x00, 0x00],
-    );
-    assert_eq!(rt; read_status(&mut sink), Err(spent));
-    assert_eq!(rt; sink.asked(), 8);
+    let mut sink = port(&STATUS, &[0x00, 0x77, 0x77, 0x01, 0x00, 0x00]);
+    is_status(&rt, &mut sink, Err(spent));
+    assert_eq!(rt; sink.asked, 8);
 }

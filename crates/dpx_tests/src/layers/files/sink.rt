@@ -1,7 +1,10 @@
-use super::{Frame, SCRIPT, WHOLE, ends};
-use crate::{Job, Need, read_job};
-use dpx_base::{Answer, Lanes, Link, Rate};
+//! A sink is a script or a model.
+
+use super::{Frame, Row, SCRIPT, WHOLE};
+use dpx_base::{Answer, Lanes, Rate};
 use dpx_dpcd::SinkPlan;
+use dpx_files::{Job, Need, read_job};
+use std::process::Abort;
 use std::test::Fail;
 
 const SINK: Frame = (r#"{"link":{"rate":"HBR","lanes":2},"sink":"#, "}");
@@ -19,47 +22,45 @@ const SCRIPTS: &str = r#"[]; [""]; ["s"]; ["00","s","","fF","Ff"]; ["\u0073"]; 1
 
 const NO_MODEL: &str = r#"{"model":null}; {"model":[]}; {"model":"caps"}"#;
 
-#[test]
-fn a_sink_is_a_script_or_a_model(rt: HostRuntime) -> Result<(), Fail> {
-    let alloc = rt.alloc();
-    ends(
-        &rt,
-        alloc,
-        WHOLE,
-        "sink",
-        r#"{"link":{"rate":"RBR","lanes":1}}"#,
-    )?;
-    ends(&rt, alloc, SINK, "sink", NO_SINK)?;
-    ends(&rt, alloc, SINK, "script", r#"{"script":null}"#)?;
-    ends(&rt, alloc, SCRIPT, "script", BAD_SCRIPTS)?;
-    ends(&rt, alloc, SCRIPT, "ok", SCRIPTS)?;
-    ends(&rt, alloc, SINK, "model", NO_MODEL)
-}
+pub(crate) const ROWS: &[Row] = &[
+    (WHOLE, "sink", r#"{"link":{"rate":"RBR","lanes":1}}"#),
+    (SINK, "sink", NO_SINK),
+    (SINK, "script", r#"{"script":null}"#),
+    (SCRIPT, "script", BAD_SCRIPTS),
+    (SCRIPT, "ok", SCRIPTS),
+    (SINK, "model", NO_MODEL),
+];
 
 const FOUR_ANSWERS: &str = r#"{"link":{"rate":"RBR","lanes":1},"sink":{"script":
     ["0012068100000000000000000000000000","s","","0fF0"]}}"#;
 
+fn is_answer(rt: &impl Abort, answer: &Answer, wanted: Option<&[u8]>) {
+    match answer {
+        Answer::Silent => assert!(rt; wanted.is_none()),
+        Answer::Bytes(given) => assert_eq!(rt; Some(given.as_slice()), wanted),
+    }
+}
+
 #[test]
 fn a_script_has_the_answers_of_its_texts(rt: HostRuntime) -> Result<(), Fail> {
     let Job::Train { link, sink } = read_job(rt.alloc(), FOUR_ANSWERS.as_bytes(), Need::Train)?;
-    let wanted = Link {
-        rate: Rate::Rbr,
-        lanes: Lanes::One,
-        enhanced: true,
-    };
-    assert_eq!(rt; link, wanted);
+    assert_eq!(rt;
+        (link.rate, link.lanes, link.enhanced),
+        (Rate::Rbr, Lanes::One, true)
+    );
     let SinkPlan::Script(answers) = sink else {
         return Err("no script".into());
     };
-    let first = *b"\0\x12\x06\x81\0\0\0\0\0\0\0\0\0\0\0\0\0";
-    let wanted: [Option<&[u8]>; 4] = [Some(&first), None, Some(&[]), Some(&[0x0f, 0xf0])];
-    assert_eq!(rt; answers.as_slice().len(), wanted.len());
-    for (answer, bytes) in answers.as_slice().iter().zip(wanted) {
-        let given = match answer {
-            Answer::Silent => None,
-            Answer::Bytes(given) => Some(given.as_slice()),
-        };
-        assert_eq!(rt; given, bytes);
-    }
+    let [first, second, third, fourth] = answers.as_slice() else {
+        return Err("not four answers".into());
+    };
+    is_answer(
+        &rt,
+        first,
+        Some(b"\0\x12\x06\x81\0\0\0\0\0\0\0\0\0\0\0\0\0"),
+    );
+    is_answer(&rt, second, None);
+    is_answer(&rt, third, Some(&[]));
+    is_answer(&rt, fourth, Some(&[0x0f, 0xf0]));
     Ok(())
 }

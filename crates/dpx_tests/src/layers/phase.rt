@@ -1,9 +1,9 @@
 ghost use Rattle.std.specs.Prelude.{◌≡◌};
 
-use crate::{FailCause, PhaseEnd, equalise, recover};
 use dpx_aux::{AuxEnd, LastAnswer};
 use dpx_base::{Answer, AuxPort, Bytes20, Lanes, Link, Rate};
 use dpx_dpcd::{Drive, Pattern, Status6};
+use dpx_phase::{FailCause, PhaseEnd, equalise, recover};
 use std::process::Abort;
 
 /// Gives its statuses to the reads of 00202 in their order, and is silent after them. It acknowledges all

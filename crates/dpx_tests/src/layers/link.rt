@@ -1,10 +1,10 @@
 ghost use Rattle.std.specs.Prelude.{◌≡◌, ◌≤◌, ◌∷◌, length};
 
-use crate::{TrainEnd, train};
 use dpx_aux::{AuxEnd, LastAnswer, Reply, read_request};
 use dpx_base::{Answer, AuxPort, Bytes20, Lanes, Link, Rate};
 use dpx_dpcd::{CapsBad, Cell, Channel, Drive, RegFile, Status6};
-use std::test::Fail;
+use dpx_link::{TrainEnd, train};
+use std::process::Abort;
 
 /// A modelled sink that answers each request at once, or never.
 #[derive(Drop)]
@@ -97,69 +97,49 @@ fn trained(rate: Rate, lanes: Lanes, drive: [u8; 4], last: [u8; 6], requests: u3
     }
 }
 
+fn ends(rt: &impl Abort, channel: Channel, top: Link, end: TrainEnd) {
+    assert_eq!(rt; train(&mut sink_with(channel), top), end);
+}
+
 #[test]
-fn perfect_sink_is_trained_at_the_top(rt: HostRuntime) -> Result<(), Fail> {
-    let end = train(
-        &mut sink_with(Channel::perfect()),
-        link(Rate::Hbr3, Lanes::Four),
-    );
+fn training_ends_at_the_highest_link_that_the_channel_carries(rt: HostRuntime) {
+    let top = link(Rate::Hbr3, Lanes::Four);
     let last = [0x77, 0x77, 0x01, 0, 0, 0];
-    assert_eq!(rt; end, trained(Rate::Hbr3, Lanes::Four, [0; 4], last, 10));
-    Ok(())
-}
-
-#[test]
-fn lane_is_trained_with_the_drive_that_it_asks_for(rt: HostRuntime) -> Result<(), Fail> {
-    let channel = but_for(Rate::Rbr, 0, Cell::new(true, true, 2, 2));
-    let end = train(&mut sink_with(channel), link(Rate::Rbr, Lanes::One));
-    let last = [0x07, 0, 0x01, 0, 0x0a, 0];
-    assert_eq!(rt;
-        end,
-        trained(Rate::Rbr, Lanes::One, [0x2a, 0, 0, 0], last, 12)
-    );
-    Ok(())
-}
-
-#[test]
-fn lane_without_a_clock_lowers_the_rate(rt: HostRuntime) -> Result<(), Fail> {
+    let end = trained(Rate::Hbr3, Lanes::Four, [0; 4], last, 10);
+    ends(&rt, Channel::perfect(), top, end);
+    // no clock at HBR3
     let channel = but_for(Rate::Hbr3, 3, Cell::new(false, true, 0, 0));
-    let end = train(&mut sink_with(channel), link(Rate::Hbr3, Lanes::Four));
-    let last = [0x77, 0x77, 0x01, 0, 0, 0];
-    assert_eq!(rt; end, trained(Rate::Hbr2, Lanes::Four, [0; 4], last, 22));
-    Ok(())
-}
-
-#[test]
-fn lane_that_does_not_equalise_halves_the_lanes(rt: HostRuntime) -> Result<(), Fail> {
+    let end = trained(Rate::Hbr2, Lanes::Four, [0; 4], last, 22);
+    ends(&rt, channel, top, end);
+    // no equalisation on four lanes
     let channel = but_for(Rate::Hbr2, 2, Cell::new(true, false, 0, 0));
-    let end = train(&mut sink_with(channel), link(Rate::Hbr2, Lanes::Four));
     let last = [0x77, 0x00, 0x01, 0, 0, 0];
-    assert_eq!(rt; end, trained(Rate::Hbr2, Lanes::Two, [0; 4], last, 24));
-    Ok(())
+    let end = trained(Rate::Hbr2, Lanes::Two, [0; 4], last, 24);
+    ends(&rt, channel, link(Rate::Hbr2, Lanes::Four), end);
+    // a lane that asks for more drive
+    let channel = but_for(Rate::Rbr, 0, Cell::new(true, true, 2, 2));
+    let last = [0x07, 0, 0x01, 0, 0x0a, 0];
+    let end = trained(Rate::Rbr, Lanes::One, [0x2a, 0, 0, 0], last, 12);
+    ends(&rt, channel, link(Rate::Rbr, Lanes::One), end);
 }
 
 #[test]
-fn dead_channel_takes_twelve_attempts(rt: HostRuntime) -> Result<(), Fail> {
+fn dead_channel_takes_twelve_attempts(rt: HostRuntime) {
     let mut channel = Channel::perfect();
     for rate in [Rate::Rbr, Rate::Hbr, Rate::Hbr2, Rate::Hbr3] {
         for lane in 0..4 {
             channel.set(rate, lane, Cell::new(false, false, 0, 0));
         }
     }
-    let end = train(&mut sink_with(channel), link(Rate::Hbr3, Lanes::Four));
-    let last = Status6 { bytes: [0; 6] };
-    assert_eq!(rt;
-        end,
-        TrainEnd::NotTrained {
-            last,
-            requests: 148
-        }
-    );
-    Ok(())
+    let end = TrainEnd::NotTrained {
+        last: Status6 { bytes: [0; 6] },
+        requests: 148,
+    };
+    ends(&rt, channel, link(Rate::Hbr3, Lanes::Four), end);
 }
 
 #[test]
-fn three_lanes_are_refused(rt: HostRuntime) -> Result<(), Fail> {
+fn three_lanes_are_refused(rt: HostRuntime) {
     let mut caps = CAPS;
     caps[2] = 0x83;
     caps[0x0e] = 0;
@@ -168,11 +148,10 @@ fn three_lanes_are_refused(rt: HostRuntime) -> Result<(), Fail> {
     let end = train(&mut port, link(Rate::Rbr, Lanes::One));
     let why = CapsBad::BadLanes(0x83);
     assert_eq!(rt; end, TrainEnd::CapsRefused { why, requests: 1 });
-    Ok(())
 }
 
 #[test]
-fn silent_sink_spends_the_first_request(rt: HostRuntime) -> Result<(), Fail> {
+fn silent_sink_spends_the_first_request(rt: HostRuntime) {
     let mut port = sink_with(Channel::perfect());
     port.is_silent = true;
     let end = train(&mut port, link(Rate::Rbr, Lanes::One));
@@ -181,5 +160,4 @@ fn silent_sink_spends_the_first_request(rt: HostRuntime) -> Result<(), Fail> {
         last: LastAnswer::Silent,
     };
     assert_eq!(rt; end, TrainEnd::AuxEnded { why, requests: 8 });
-    Ok(())
 }

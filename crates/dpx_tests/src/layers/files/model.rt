@@ -1,8 +1,10 @@
-use super::{Frame, ends};
-use crate::{Job, Need, read_job};
+//! A model has registers, defers and a channel.
+
+use super::super::behaves;
+use super::{Frame, Row};
 use dpx_base::{Lanes, Link, Rate};
-use dpx_dpcd::{Cell, Channel, SinkPlan};
-use std::process::Abort;
+use dpx_dpcd::{Cell, SinkPlan};
+use dpx_files::{Job, Need, read_job};
 use std::test::Fail;
 
 const MODEL: Frame = (
@@ -58,18 +60,16 @@ const BAD_CELLS: &str =
     [1,1,0,-1]; [true,1,0,0]; [1,null,0,0]; [1,1,"0",0]; [1,1,0,1.0]; [1,1,0,[0]]; [1,1,256,0]; [257,1,0,0];
     [1,1,0,0],[1,1,0,0]"#;
 
-#[test]
-fn a_model_has_registers_defers_and_a_channel(rt: HostRuntime) -> Result<(), Fail> {
-    let alloc = rt.alloc();
-    ends(&rt, alloc, MODEL, "caps", BAD_CAPS)?;
-    ends(&rt, alloc, MODEL, "ok", CAPS)?;
-    ends(&rt, alloc, MEMBER, "extended", BAD_EXTENDED)?;
-    ends(&rt, alloc, MEMBER, "defers", BAD_DEFERS)?;
-    ends(&rt, alloc, MEMBER, "ok", MEMBERS)?;
-    ends(&rt, alloc, MEMBER, "channel", BAD_CHANNELS)?;
-    ends(&rt, alloc, CELL, "channel", BAD_CELLS)?;
-    ends(&rt, alloc, CELL, "ok", "[0,0,0,0]; [1,0,3,3]; [0,1,2,1]")
-}
+pub(crate) const ROWS: &[Row] = &[
+    (MODEL, "caps", BAD_CAPS),
+    (MODEL, "ok", CAPS),
+    (MEMBER, "extended", BAD_EXTENDED),
+    (MEMBER, "defers", BAD_DEFERS),
+    (MEMBER, "ok", MEMBERS),
+    (MEMBER, "channel", BAD_CHANNELS),
+    (CELL, "channel", BAD_CELLS),
+    (CELL, "ok", "[0,0,0,0]; [1,0,3,3]; [0,1,2,1]"),
+];
 
 const SEVEN_DEFERS: &str =
     r#"{"link":{"rate":"HBR3","lanes":4},"sink":{"model":{"caps":"120A84010000000000000000000000FF",
@@ -98,18 +98,13 @@ fn a_model_is_read_with_its_defaults(rt: HostRuntime) -> Result<(), Fail> {
     assert_eq!(rt; defers, 7);
     let good = Cell::new(true, true, 0, 0);
     for rate in [Rate::Rbr, Rate::Hbr, Rate::Hbr3] {
-        has_cells(&rt, &channel, rate, [good, good, good, good]);
+        for lane in 0..4 {
+            behaves(&rt, &channel, rate, lane, good);
+        }
     }
-    let first = Cell::new(false, true, 2, 1);
-    let second = Cell::new(true, false, 0, 3);
-    let third = Cell::new(false, false, 3, 0);
-    let fourth = Cell::new(true, true, 1, 2);
-    has_cells(&rt, &channel, Rate::Hbr2, [first, second, third, fourth]);
+    behaves(&rt, &channel, Rate::Hbr2, 0, Cell::new(false, true, 2, 1));
+    behaves(&rt, &channel, Rate::Hbr2, 1, Cell::new(true, false, 0, 3));
+    behaves(&rt, &channel, Rate::Hbr2, 2, Cell::new(false, false, 3, 0));
+    behaves(&rt, &channel, Rate::Hbr2, 3, Cell::new(true, true, 1, 2));
     Ok(())
-}
-
-fn has_cells(rt: &impl Abort, channel: &Channel, rate: Rate, wanted: [Cell; 4]) {
-    for (lane, cell) in wanted.iter().enumerate() {
-        assert_eq!(rt; channel.cell(rate, lane as u8), *cell);
-    }
 }
