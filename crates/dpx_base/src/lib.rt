@@ -8,24 +8,53 @@
 //! * `aux_port`: the AUX channel, as requests, answers and their history
 #![tactic(auto)]
 
+mod arrivals;
 mod aux_port;
+mod beam;
 mod bounded_bytes;
+mod depth;
 mod fault;
+mod lane_bytes;
+mod lane_set;
 mod lanes;
 mod link;
+mod mem_pipe;
 mod mem_sink;
 mod mem_source;
+mod mode;
+mod pipe;
+mod pixel;
+mod place;
 mod rate;
+mod raw_mode;
+mod scan;
 mod sink;
+mod slot;
 mod source;
+mod sym;
+mod workers;
 
+pub use arrivals::Arrivals;
 pub use aux_port::{Answer, AuxPort, Entry};
+pub use beam::Beam;
 pub use bounded_bytes::{BoundedBytes, Bytes20};
+pub use depth::Depth;
 pub use fault::{Failed, Memory};
+pub use lane_bytes::LaneBytes;
+pub use lane_set::LaneSet;
 pub use lanes::Lanes;
 pub use link::Link;
+pub use mem_pipe::MemPipe;
 pub use mem_sink::MemSink;
 pub use mem_source::MemSource;
+pub use mode::Mode;
+pub use pipe::{BeginEnd, Pipe, PipeEnd};
+pub use pixel::Pixel;
+pub use place::Place;
 pub use rate::Rate;
+pub use raw_mode::{ModeField, RawMode};
 pub use sink::Sink;
+pub use slot::{Slot, Stuffing};
 pub use source::Source;
+pub use sym::Sym;
+pub use workers::{Gate, NoGate, Workers};
