@@ -62,6 +62,37 @@ impl LaneSet {
         }
     }
 
+    /// The same symbol on each lane.
+    pub fn on_each(lanes: Lanes, symbol: Sym) -> LaneSet
+        ensures { result ≡ replicate (count_of lanes) symbol }
+    {
+        match lanes {
+            Lanes::One => LaneSet {
+                symbols: [symbol, NONE, NONE, NONE],
+                count: 1,
+            },
+            Lanes::Two => LaneSet {
+                symbols: [symbol, symbol, NONE, NONE],
+                count: 2,
+            },
+            Lanes::Four => LaneSet {
+                symbols: [symbol, symbol, symbol, symbol],
+                count: 4,
+            },
+        }
+    }
+
+    /// A data symbol for each byte.
+    pub fn data(bytes: &LaneBytes) -> LaneSet
+        ensures { result ≡ map data_symbol bytes.now }
+    {
+        let [a, b, c, d] = bytes.bytes;
+        LaneSet {
+            symbols: [Sym::data(a), Sym::data(b), Sym::data(c), Sym::data(d)],
+            count: bytes.count,
+        }
+    }
+
     /// How many lanes it has.
     pub fn len(&self) -> usize
         ensures length { result ≡ length self.now }

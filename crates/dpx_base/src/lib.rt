@@ -1,6 +1,10 @@
 //! The values, the traits of the outside, and the forms in memory that every other crate names.
 //!
 //! * `rate`, `lanes`, `link`: the configuration of a main link
+//! * `mode`, `raw_mode`, `depth`, `pixel`, `pixel_record`: what a display shows
+//! * `sym`, `slot`, `place`, `lane_set`, `lane_bytes`, `arrivals`: what a symbol clock carries
+//! * `beam`, `scan`: when a display engine has its pixels; `pipe`, `mem_pipe`: such an engine, and one over memory
+//! * `workers`: who works on the lanes
 //! * `fault`: what an object of the outside answers where it fails, and want of memory
 //! * `source`, `sink`: bytes that are read, bytes that are written
 //! * `mem_source`, `mem_sink`: the two over memory, with faults at chosen calls
@@ -24,6 +28,7 @@ mod mem_source;
 mod mode;
 mod pipe;
 mod pixel;
+mod pixel_record;
 mod place;
 mod rate;
 mod raw_mode;
@@ -50,6 +55,7 @@ pub use mem_source::MemSource;
 pub use mode::Mode;
 pub use pipe::{BeginEnd, Pipe, PipeEnd};
 pub use pixel::Pixel;
+pub use pixel_record::{read_pixel, write_pixel};
 pub use place::Place;
 pub use rate::Rate;
 pub use raw_mode::{ModeField, RawMode};
