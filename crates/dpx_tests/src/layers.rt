@@ -11,7 +11,10 @@ mod base;
 mod dpcd;
 mod files;
 mod link;
+mod main_link;
+mod modes;
 mod phase;
+mod pipe;
 mod register_file;
 mod sinkmodel;
 
