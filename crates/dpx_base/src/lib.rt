@@ -4,12 +4,12 @@
 //! * `fault`: what an object of the outside answers where it fails, and want of memory
 //! * `source`, `sink`: bytes that are read, bytes that are written
 //! * `mem_source`, `mem_sink`: the two over memory, with faults at chosen calls
-//! * `bounded_bytes`: a list of bytes whose length is bounded
+//! * `bounded_list`: a list whose length is bounded both ways
 //! * `aux_port`: the AUX channel, as requests, answers and their history
 #![tactic(auto)]
 
 mod aux_port;
-mod bounded_bytes;
+mod bounded_list;
 mod fault;
 mod lanes;
 mod link;
@@ -20,7 +20,7 @@ mod sink;
 mod source;
 
 pub use aux_port::{Answer, AuxPort, Entry};
-pub use bounded_bytes::{BoundedBytes, Bytes20};
+pub use bounded_list::{BoundedList, Bytes20};
 pub use fault::{Failed, Memory};
 pub use lanes::Lanes;
 pub use link::Link;

@@ -2,15 +2,15 @@
 use Rattle.std.specs.Prelude.{◌≡◌, ℕ, ◌-◌, ◌^◌, ◌<◌, ◌≤◌, min, List, [], ◌∷◌, IfSome, IsSome}
 use Rattle.dpx_base.specs.declared.aux_port.Entry.{Entry}
 use Rattle.dpx_base.specs.declared.aux_port.Entry.TheVariants.{Asked, Waited}
-use Rattle.dpx_base.specs.Port.{PortState, answers_of}
+use Rattle.dpx_base.specs.Port.{PortState, answers_in}
 use Rattle.dpx_dpcd.specs.declared.plan.SinkPlan.{SinkPlan}
 use Rattle.dpx_dpcd.specs.SinkPlan.{planned}
 
 -- the bytes that were asked, in their order
-abbrev pub requests_of : List Entry → List (List ℕ)
-requests_of [] = []
-requests_of (Asked request answer ∷ entries) = request ∷ requests_of entries
-requests_of (Waited micros ∷ entries) = requests_of entries
+abbrev pub requests_in : List Entry → List (List ℕ)
+requests_in [] = []
+requests_in (Asked request answer ∷ entries) = request ∷ requests_in entries
+requests_in (Waited micros ∷ entries) = requests_in entries
 
 -- Just loaded: nothing was asked. The history, where it is told, is empty; the plan, where it is told, is this one.
 pub record IsLoaded (loaded : SinkPlan) (now : PortState SinkPlan) : Type 0 where
@@ -29,4 +29,4 @@ pub record BeginsAnew (surely_told : ℕ) (before now : PortState SinkPlan) : Ty
 abbrev pub AnswersAsPlanned : PortState SinkPlan → Type 0
 AnswersAsPlanned state =
     IfSome state.plan (λ plan.
-    IfSome state.history (λ entries. answers_of entries ≡ planned plan (requests_of entries)))
+    IfSome state.history (λ entries. answers_in entries ≡ planned plan (requests_in entries)))

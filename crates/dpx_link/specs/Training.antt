@@ -7,7 +7,7 @@ use Rattle.dpx_aux.specs.declared.transaction.AuxEnd.{AuxEnd}
 use Rattle.dpx_aux.specs.Conversation.{Ends, ◌>>=◌, Choice}
 use Rattle.dpx_dpcd.specs.declared.caps.Caps.{Caps}
 use Rattle.dpx_dpcd.specs.declared.caps.CapsBad.{CapsBad}
-use Rattle.dpx_dpcd.specs.Caps.{says_extended, caps_from, start_of}
+use Rattle.dpx_dpcd.specs.Caps.{has_extended, caps_read, caps_start}
 use Rattle.dpx_dpcd.specs.Registers.{ReadsBlock, Writes}
 use Rattle.dpx_dpcd.specs.Status.{cr_done, eq_done}
 use Rattle.dpx_link.specs.declared.fallback.Next.{Next}
@@ -23,7 +23,7 @@ use Rattle.dpx_link.specs.Fallback.{next_of}
 unfoldable pub Capabilities : Result (List ℕ) AuxEnd → List Entry → Type 0
 Capabilities = do
   block ← ReadsBlock 0x00000
-  Choice (says_extended block) (ReadsBlock 0x02200) (Ends (Ok block))
+  Choice (has_extended block) (ReadsBlock 0x02200) (Ends (Ok block))
 
 -- no conversation at all
 pub record Never {R : Type 0} (given : R) (history : List Entry) : Type 0 where
@@ -58,13 +58,13 @@ TrainsWith caps first = do
 -- behind the capabilities: a refusal ends the training
 abbrev pub Capable : Link → Result Caps CapsBad → Result Verdict AuxEnd → List Entry → Type 0
 Capable top (Err why) = Ends (Ok (verdict.CapsRefused why))
-Capable top (Ok caps) = TrainsWith caps (start_of caps top)
+Capable top (Ok caps) = TrainsWith caps (caps_start caps top)
 
 -- a training of the top configuration, up to its last transaction
-unfoldable pub Trains : Link → Result Verdict AuxEnd → List Entry → Type 0
-Trains top = do
+unfoldable pub TrainOutcome : Link → Result Verdict AuxEnd → List Entry → Type 0
+TrainOutcome top = do
   block ← Capabilities
-  Capable top (caps_from block)
+  Capable top (caps_read block)
 
 -- how the training ended, after so many asks
 abbrev pub end_of : ℕ → Result Verdict AuxEnd → TrainEnd
@@ -76,25 +76,25 @@ end_of requests (Err why) = AuxEnded why requests
 -- a history is a training of the top configuration, with this end
 pub record Training (top : Link) (end : TrainEnd) (history : List Entry) : Type 0 where
   pub outcome : Result Verdict AuxEnd
-  pub trains : Trains top outcome history
+  pub trains : TrainOutcome top outcome history
   pub ends : end ≡ end_of (asks history) outcome
 
 -- trained only where the last status shows every lane in use done
-abbrev pub IsGoodVerdict : Verdict → Type 0
-IsGoodVerdict (verdict.Trained link drive last) =
+abbrev pub VerdictIsDone : Verdict → Type 0
+VerdictIsDone (verdict.Trained link drive last) =
     (cr_done link.lanes last.bytes ≡ true) × (eq_done link.lanes last.bytes ≡ true)
-IsGoodVerdict (verdict.NotTrained last) = ⊤
-IsGoodVerdict (verdict.CapsRefused why) = ⊤
+VerdictIsDone (verdict.NotTrained last) = ⊤
+VerdictIsDone (verdict.CapsRefused why) = ⊤
 
-abbrev pub IsGood : TrainEnd → Type 0
-IsGood (Trained link drive last requests) =
+abbrev pub TrainedIsDone : TrainEnd → Type 0
+TrainedIsDone (Trained link drive last requests) =
     (cr_done link.lanes last.bytes ≡ true) × (eq_done link.lanes last.bytes ≡ true)
-IsGood (NotTrained last requests) = ⊤
-IsGood (CapsRefused why requests) = ⊤
-IsGood (AuxEnded why requests) = ⊤
+TrainedIsDone (NotTrained last requests) = ⊤
+TrainedIsDone (CapsRefused why requests) = ⊤
+TrainedIsDone (AuxEnded why requests) = ⊤
 
-abbrev pub requests_of : TrainEnd → ℕ
-requests_of (Trained link drive last requests) = requests
-requests_of (NotTrained last requests) = requests
-requests_of (CapsRefused why requests) = requests
-requests_of (AuxEnded why requests) = requests
+abbrev pub requests_told : TrainEnd → ℕ
+requests_told (Trained link drive last requests) = requests
+requests_told (NotTrained last requests) = requests
+requests_told (CapsRefused why requests) = requests
+requests_told (AuxEnded why requests) = requests

@@ -1,6 +1,6 @@
 ghost use Rattle.std.specs.Prelude.{◌≡◌, ◌+◌, ◌^◌, ◌<◌, ◌≤◌, true, IfOk};
 ghost use Rattle.dpx_aux.specs.Conversation.{Converses};
-ghost use Rattle.dpx_link.specs.Attempt.{Attempt, Configures, Phases, IsGoodEnd, lanes_byte, equalised};
+ghost use Rattle.dpx_link.specs.Attempt.{Attempt, Configures, PhasesInTurn, AttemptIsDone, lanes_byte, equalised};
 
 use dpx_aux::AuxEnd;
 use dpx_base::{AuxPort, Link};
@@ -33,7 +33,7 @@ pub(crate) fn attempt<P: AuxPort>(
     requires countable { (P.state port.old).asked + 256 < 2 ^ 64 }
     ensures attempt { Converses (Attempt caps.now link) (P.state port.old) (P.state port.new) result }
     ensures few { (P.state port.new).asked ≤ (P.state port.old).asked + 256 }
-    ensures good { IfOk result (IsGoodEnd link.lanes) }
+    ensures good { IfOk result (AttemptIsDone link.lanes) }
 {
     configure(port, link)?;
     phases(port, caps, link)
@@ -63,13 +63,13 @@ fn lanes_byte(link: Link) -> u8
 fn phases<P: AuxPort>(port: &mut P, caps: &Caps, link: Link) -> Result<AttemptEnd, AuxEnd>
     requires interval { caps.now.interval ≤ 127 }
     requires countable { (P.state port.old).asked + 240 < 2 ^ 64 }
-    ensures phases { Converses (Phases caps.now link) (P.state port.old) (P.state port.new) result }
+    ensures phases { Converses (PhasesInTurn caps.now link) (P.state port.old) (P.state port.new) result }
     ensures few { (P.state port.new).asked ≤ (P.state port.old).asked + 240 }
-    ensures good { IfOk result (IsGoodEnd link.lanes) }
+    ensures good { IfOk result (AttemptIsDone link.lanes) }
 {
     match recover(port, link) {
         PhaseEnd::Done { drive, .. } => {
-            after_equalisation(equalise(port, link, caps.pattern(), drive, caps.interval))
+            equalised(equalise(port, link, caps.pattern(), drive, caps.interval))
         }
         PhaseEnd::Failed { last, .. } | PhaseEnd::Lost { last } => {
             Ok(AttemptEnd::Unrecovered { last })
@@ -79,7 +79,7 @@ fn phases<P: AuxPort>(port: &mut P, caps: &Caps, link: Link) -> Result<AttemptEn
 }
 
 /// What an end of equalisation means for the attempt.
-fn after_equalisation(end: PhaseEnd) -> Result<AttemptEnd, AuxEnd>
+fn equalised(end: PhaseEnd) -> Result<AttemptEnd, AuxEnd>
     ensures { result ≡ equalised end }
 {
     match end {

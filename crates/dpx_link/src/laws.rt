@@ -3,7 +3,7 @@ ghost use Rattle.std.specs.Prelude.{◌≤◌};
 ghost use Rattle.dpx_base.specs.Port.{asks};
 ghost use Rattle.dpx_aux.specs.Conversation.{IsDecided};
 ghost use Rattle.dpx_link.specs.Laws.{MadeOfAtMost, HistoriesAre, ResultsAre, FallsAlways};
-ghost use Rattle.dpx_link.specs.Training.{Training, IsGood};
+ghost use Rattle.dpx_link.specs.Training.{Training, TrainedIsDone};
 
 use dpx_base::Link;
 
@@ -25,5 +25,5 @@ pub fn is_bounded(top: Link)
 
 /// A training says Trained only where the last status shows every lane in use done, whatever its history.
 pub fn trained_is_good(top: Link)
-    ensures { ResultsAre (Training top) IsGood }
+    ensures { ResultsAre (Training top) TrainedIsDone }
 {}

@@ -1,11 +1,11 @@
 ghost use Rattle.std.specs.Prelude.{◌≡◌, ◌+◌, ◌^◌, ◌<◌, ◌≤◌, IfOk};
 ghost use Rattle.dpx_aux.specs.Conversation.{Converses};
-ghost use Rattle.dpx_link.specs.Training.{Capabilities, Attempts, TrainsWith, Trains, Training, requests_of, IsGood};
-ghost use Rattle.dpx_link.specs.Training.{IsGoodVerdict, attempts_at_most};
+ghost use Rattle.dpx_link.specs.Training.{Capabilities, Attempts, TrainsWith, TrainOutcome, Training, requests_told, TrainedIsDone};
+ghost use Rattle.dpx_link.specs.Training.{VerdictIsDone, attempts_at_most};
 
 use crate::attempt::attempt;
-use crate::fallback::{Next, follow_up};
-use crate::train_end::{TrainEnd, Verdict, ended};
+use crate::fallback::{Next, next_of};
+use crate::train_end::{TrainEnd, Verdict, end_of};
 use dpx_aux::AuxEnd;
 use dpx_base::{AuxPort, Link};
 use dpx_dpcd::{Caps, has_extended, read_block, write_registers};
@@ -26,21 +26,21 @@ pub fn train<P: AuxPort>(port: &mut P, top: Link) -> TrainEnd
     requires { (P.state port.old).asked + 3104 < 2 ^ 64 }
     ensures training { Converses (Training top) (P.state port.old) (P.state port.new) result }
     ensures few { (P.state port.new).asked ≤ (P.state port.old).asked + 3104 }
-    ensures counted { (P.state port.new).asked ≡ (P.state port.old).asked + requests_of result }
-    ensures good { IsGood result }
+    ensures counted { (P.state port.new).asked ≡ (P.state port.old).asked + requests_told result }
+    ensures good { TrainedIsDone result }
 {
     let before = port.asked();
     let outcome = converse(port, top);
-    ended(outcome, (port.asked() - before) as u32)
+    end_of(outcome, (port.asked() - before) as u32)
 }
 
 /// The whole conversation. A transaction that fails is its last.
-#[tactic(auto, unfolding(crate::specs::Training::Trains))]
+#[tactic(auto, unfolding(crate::specs::Training::TrainOutcome))]
 fn converse<P: AuxPort>(port: &mut P, top: Link) -> Result<Verdict, AuxEnd>
     requires { (P.state port.old).asked + 3104 < 2 ^ 64 }
-    ensures trains { Converses (Trains top) (P.state port.old) (P.state port.new) result }
+    ensures trains { Converses (TrainOutcome top) (P.state port.old) (P.state port.new) result }
     ensures few { (P.state port.new).asked ≤ (P.state port.old).asked + 3104 }
-    ensures good { IfOk result IsGoodVerdict }
+    ensures good { IfOk result VerdictIsDone }
 {
     let block = capabilities(port)?;
     match Caps::read(&block) {
@@ -71,7 +71,7 @@ fn train_with<P: AuxPort>(port: &mut P, caps: &Caps, first: Link) -> Result<Verd
     requires countable { (P.state port.old).asked + 3088 < 2 ^ 64 }
     ensures trains { Converses (TrainsWith caps.now first) (P.state port.old) (P.state port.new) result }
     ensures few { (P.state port.new).asked ≤ (P.state port.old).asked + 3088 }
-    ensures good { IfOk result IsGoodVerdict }
+    ensures good { IfOk result VerdictIsDone }
 {
     write_registers(port, SET_POWER, &[0x01])?;
     let verdict = attempts(port, caps, first)?;
@@ -86,12 +86,12 @@ fn attempts<P: AuxPort>(port: &mut P, caps: &Caps, first: Link) -> Result<Verdic
     ensures attempts { Converses (Attempts attempts_at_most caps.now first first)
         (P.state port.old) (P.state port.new) result }
     ensures few { (P.state port.new).asked ≤ (P.state port.old).asked + 3072 }
-    ensures good { IfOk result IsGoodVerdict }
+    ensures good { IfOk result VerdictIsDone }
 {
     let mut link = first;
     for _ in 0..ATTEMPTS {
         let end = attempt(port, caps, link)?;
-        match follow_up(first, link, end) {
+        match next_of(first, link, end) {
             Next::Try(lower) => link = lower,
             Next::Stop(verdict) => return Ok(verdict),
         }

@@ -4,7 +4,7 @@ ghost use Rattle.dpx_base.specs.declared.aux_port.Entry.{Entry};
 ghost use Rattle.dpx_base.specs.Port.{PortState, Added};
 ghost use Rattle.dpx_dpcd.specs.SinkPlan.{planned};
 ghost use Rattle.dpx_dpcd.specs.LoadPort.{IsLoaded, BeginsAnew};
-ghost use Rattle.dpx_sinkmodel.specs.Loaded.{plan_of, answers_next, answers_next-nil, requests_so_far};
+ghost use Rattle.dpx_sinkmodel.specs.Loaded.{plan_loaded, answers_next, answers_next-nil, requests_so_far};
 ghost use Rattle.dpx_sinkmodel.specs.History.{entries_at_most, kept_with, told_with, PlaysPlan, as_planned_by};
 
 use crate::loaded::{Loaded, copy};
@@ -27,7 +27,7 @@ pub struct PlanPort {
     asked_before: u64,
     ghost room: { entries_at_most ≤ vec_capacity entries },
     ghost few: { requests_so_far loaded ≤ asked },
-    ghost plays: { PlaysPlan (plan_of loaded) kept entries.items (answers_next loaded) },
+    ghost plays: { PlaysPlan (plan_loaded loaded) kept entries.items (answers_next loaded) },
 }
 
 impl PlanPort {
@@ -134,7 +134,7 @@ impl LoadPort for PlanPort {
     }
 
     ghost as_planned = { λ port. let loaded = port.loaded in
-        as_planned_by (plan_of loaded) port.kept port.entries.items (answers_next loaded) port.plays (answers_next-nil loaded) };
+        as_planned_by (plan_loaded loaded) port.kept port.entries.items (answers_next loaded) port.plays (answers_next-nil loaded) };
 }
 
 /// Keeps the entry while there is room. Else not all entries are kept any more.
