@@ -9,7 +9,7 @@ use Rattle.dpx_base.specs.Port.{asks}
 use Rattle.dpx_base.proofs.Port.{asks-append}
 use Rattle.dpx_aux.specs.declared.request.Request.{Request}
 use Rattle.dpx_aux.specs.declared.transaction.AuxEnd.{AuxEnd}
-use Rattle.dpx_aux.specs.Conversation.{Ends, Waits, ◌>>=◌, Choice}
+use Rattle.dpx_aux.specs.Conversation.{Ends, Waits, ◌>>=◌, Choice, HistoriesAre}
 use Rattle.dpx_aux.specs.Transaction.{Transaction, asked_with}
 use Rattle.dpx_dpcd.specs.declared.caps.Caps.{Caps}
 use Rattle.dpx_dpcd.specs.declared.caps.CapsBad.{CapsBad}
@@ -29,7 +29,7 @@ use Rattle.dpx_link.specs.declared.fallback.Next.TheVariants.{Try, Stop}
 use Rattle.dpx_link.specs.declared.train_end.Verdict.{Verdict}
 use Rattle.dpx_link.specs.Attempt.{Attempt, Configures, PhasesInTurn, AfterRecovery, Equalises}
 use Rattle.dpx_link.specs.Fallback.{next_of}
-use Rattle.dpx_link.specs.Laws.{OnlyWaits, MadeOf, MadeOfAtMost, HistoriesAre}
+use Rattle.dpx_link.specs.Laws.{OnlyWaits, MadeOf, MadeOfAtMost}
 use Rattle.dpx_link.specs.Training.{Capabilities, Capable, Never, Attempts, AfterAttempt, TrainsWith, TrainOutcome, Training, attempts_at_most}
 
 waits-append : (xs ys : List Entry) → OnlyWaits xs → OnlyWaits ys → OnlyWaits (xs ++ ys)

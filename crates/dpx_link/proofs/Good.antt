@@ -5,7 +5,7 @@ use Rattle.dpx_base.specs.declared.aux_port.Entry.{Entry}
 use Rattle.dpx_base.specs.declared.link.Link.{Link}
 use Rattle.dpx_base.specs.Port.{asks}
 use Rattle.dpx_aux.specs.declared.transaction.AuxEnd.{AuxEnd}
-use Rattle.dpx_aux.specs.Conversation.{Ends, ◌>>=◌}
+use Rattle.dpx_aux.specs.Conversation.{Ends, ◌>>=◌, ResultsAre}
 use Rattle.dpx_dpcd.specs.declared.caps.Caps.{Caps}
 use Rattle.dpx_dpcd.specs.declared.caps.CapsBad.{CapsBad}
 use Rattle.dpx_dpcd.specs.declared.pattern.Pattern.{Pattern}
@@ -16,7 +16,6 @@ use Rattle.dpx_dpcd.specs.Registers.{Writes}
 use Rattle.dpx_phase.specs.declared.phase_end.PhaseEnd.{PhaseEnd}
 use Rattle.dpx_phase.specs.declared.phase_end.PhaseEnd.TheVariants.{Done, Failed, Lost, Aux}
 use Rattle.dpx_phase.specs.Equalisation.{Equalisation, EndsEqualisation}
-use Rattle.dpx_phase.specs.Laws.{ResultsAre}
 use Rattle.dpx_phase.proofs.Honest.{equalisation_honest, takes_always}
 use Rattle.dpx_link.specs.declared.attempt.AttemptEnd.{AttemptEnd}
 use Rattle.dpx_link.specs.declared.attempt.AttemptEnd.TheVariants as attempt
@@ -26,7 +25,6 @@ use Rattle.dpx_link.specs.declared.train_end.Verdict.{Verdict}
 use Rattle.dpx_link.specs.declared.train_end.Verdict.TheVariants as verdict
 use Rattle.dpx_link.specs.Attempt.{Attempt, PhasesInTurn, AfterRecovery, Equalises, equalised, AttemptIsDone}
 use Rattle.dpx_link.specs.Fallback.{next_of, fall_back}
-use Rattle.dpx_link.specs.Laws.{ResultsAre}
 use Rattle.dpx_link.specs.Training.{Capable, Never, Attempts, AfterAttempt, TrainsWith, TrainOutcome, Training, attempts_at_most, end_of, TrainedIsDone, VerdictIsDone}
 
 -- what follows the first part gives only such values

@@ -3,6 +3,7 @@ use Rattle.std.specs.Prelude.{◌≡◌, ℕ, ◌*◌, ◌==◌, true, false, mi
 use Rattle.dpx_base.specs.declared.aux_port.Entry.{Entry}
 use Rattle.dpx_base.specs.declared.lanes.Lanes.{Lanes}
 use Rattle.dpx_base.specs.declared.link.Link.{Link}
+use Rattle.dpx_aux.specs.Transaction.{asks_at_most}
 use Rattle.dpx_dpcd.specs.declared.pattern.Pattern.{Pattern}
 use Rattle.dpx_dpcd.specs.declared.status.Drive.{Drive}
 use Rattle.dpx_dpcd.specs.Status.{cr_done, eq_done, AllLanesDone}
@@ -10,7 +11,7 @@ use Rattle.dpx_phase.specs.declared.phase_end.PhaseEnd.{PhaseEnd}
 use Rattle.dpx_phase.specs.declared.phase_end.PhaseEnd.TheVariants.{Done, Failed, Lost, Aux}
 use Rattle.dpx_phase.specs.declared.phase_end.FailCause.TheVariants.{Reads}
 use Rattle.dpx_phase.specs.Endings.{equalisation_reads, equalisation_ends}
-use Rattle.dpx_phase.specs.Phase.{Phase, Takes, phase_asks}
+use Rattle.dpx_phase.specs.Phase.{Phase, Takes, phase_transactions}
 
 -- channel equalisation begins with the drive that recovery ended with
 abbrev pub equalisation : Lanes → List ℕ → ℕ → Phase
@@ -27,7 +28,7 @@ Equalisation link chosen drive interval =
 
 -- how many asks it takes at most
 abbrev pub equalisation_asks : ℕ
-equalisation_asks = phase_asks equalisation_reads
+equalisation_asks = asks_at_most * phase_transactions equalisation_reads
 
 -- what an end of channel equalisation says of the last status
 abbrev pub EndsEqualisation : Lanes → PhaseEnd → Type 0

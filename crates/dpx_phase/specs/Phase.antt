@@ -1,10 +1,9 @@
 -- What a training phase asks: VESA DisplayPort 1.4a, link training, in outline.
-use Rattle.std.specs.Prelude.{◌≡◌, ℕ, ◌+◌, ◌-◌, ◌*◌, List, [], ◌∷◌, ◌++◌, length, Option, Some, None, Result, Ok, Err, ⊤}
+use Rattle.std.specs.Prelude.{◌≡◌, ℕ, ◌+◌, ◌-◌, List, [], ◌∷◌, ◌++◌, length, Option, Some, None, Result, Ok, Err, ⊤}
 use Rattle.dpx_base.specs.declared.aux_port.Entry.{Entry}
 use Rattle.dpx_base.specs.declared.lanes.Lanes.{Lanes}
 use Rattle.dpx_aux.specs.declared.transaction.AuxEnd.{AuxEnd}
 use Rattle.dpx_aux.specs.Conversation.{Ends, Waits, ◌>>=◌}
-use Rattle.dpx_aux.specs.Transaction.{asks_at_most}
 use Rattle.dpx_dpcd.specs.declared.pattern.Pattern.{Pattern}
 use Rattle.dpx_dpcd.specs.declared.status.Status6.{Status6}
 use Rattle.dpx_dpcd.specs.Pattern.{pattern_register}
@@ -52,13 +51,13 @@ abbrev pub Rounds : Phase → List Status6 → List Entry → Type 0
 Rounds phase [] = λ history. history ≡ []
 Rounds phase (status ∷ statuses) = Joins (Round phase (Ok status)) (Rounds phase statuses)
 
--- how many asks so many reads of a status take at most, with a write behind each but the last
-abbrev pub rounds_asks : ℕ → ℕ
-rounds_asks reads = asks_at_most * (reads + (reads - 1))
+-- how many transactions so many reads of a status make, with a write behind each but the last
+abbrev pub rounds_transactions : ℕ → ℕ
+rounds_transactions reads = reads + (reads - 1)
 
 -- the same with the start write
-abbrev pub phase_asks : ℕ → ℕ
-phase_asks reads = asks_at_most + rounds_asks reads
+abbrev pub phase_transactions : ℕ → ℕ
+phase_transactions reads = 1 + rounds_transactions reads
 
 -- this is tried, and fails
 pub record Fails {A B E : Type 0} (part : Result A E → List Entry → Type 0) (given : Result B E)

@@ -1,10 +1,11 @@
-ghost use Rattle.std.specs.Prelude.{◌≡◌, ◌+◌, ◌^◌, ◌<◌, ◌≤◌, ◌≢◌, IfOk, IfSome, IfNone};
+ghost use Rattle.std.specs.Prelude.{◌≡◌, ◌+◌, ◌*◌, ◌<◌, ◌≤◌, ◌≢◌, IfOk, IfSome, IfNone};
 ghost use Rattle.dpx_base.specs.Asks.{CanAsk, AsksAtMost};
 ghost use Rattle.dpx_aux.specs.Conversation.{Converses};
+ghost use Rattle.dpx_aux.specs.Transaction.{asks_at_most};
 ghost use Rattle.dpx_dpcd.specs.declared.pattern.Pattern.{Pattern};
 ghost use Rattle.dpx_dpcd.specs.Status.{cr_done, eq_done};
 ghost use Rattle.dpx_phase.specs.Endings.{equalisation_reads, equalisation_end};
-ghost use Rattle.dpx_phase.specs.Phase.{Runs, Follows, rounds_asks};
+ghost use Rattle.dpx_phase.specs.Phase.{Runs, Follows, rounds_transactions};
 ghost use Rattle.dpx_phase.specs.Equalisation.{Equalisation, equalisation, pause_of, equalisation_asks};
 ghost use Rattle.dpx_phase.specs.Equalisation.{EndsEqualisation};
 
@@ -76,10 +77,10 @@ fn adjust<P: AuxPort>(
     first: Drive,
     pause: u32,
 ) -> Result<PhaseEnd, AuxEnd>
-    requires { CanAsk (rounds_asks equalisation_reads) (P.state port.old) }
+    requires { CanAsk (asks_at_most * rounds_transactions equalisation_reads) (P.state port.old) }
     ensures follows { Converses (Follows (equalisation lanes first.registers pause))
         (P.state port.old) (P.state port.new) result }
-    ensures few { AsksAtMost (rounds_asks equalisation_reads) (P.state port.old) (P.state port.new) }
+    ensures few { AsksAtMost (asks_at_most * rounds_transactions equalisation_reads) (P.state port.old) (P.state port.new) }
     ensures end { IfOk result (EndsEqualisation lanes) }
 {
     let mut drive = first;

@@ -1,11 +1,12 @@
-ghost use Rattle.std.specs.Prelude.{◌≡◌, ℕ, ◌+◌, ◌^◌, ◌<◌, ◌≤◌, nat_le, if◌then◌else◌, IfOk, IfSome, IfNone};
+ghost use Rattle.std.specs.Prelude.{◌≡◌, ℕ, ◌+◌, ◌*◌, ◌<◌, ◌≤◌, nat_le, if◌then◌else◌, IfOk, IfSome, IfNone};
 ghost use Rattle.dpx_base.specs.Asks.{CanAsk, AsksAtMost};
 ghost use Rattle.dpx_aux.specs.Conversation.{Converses};
+ghost use Rattle.dpx_aux.specs.Transaction.{asks_at_most};
 ghost use Rattle.dpx_dpcd.specs.declared.pattern.Pattern.TheVariants.{Tps1};
 ghost use Rattle.dpx_dpcd.specs.Status.{cr_done, status_level};
 ghost use Rattle.dpx_phase.specs.Drives.{no_drive, at_full_swing, same_swings};
 ghost use Rattle.dpx_phase.specs.Endings.{recovery_reads, recovery_end};
-ghost use Rattle.dpx_phase.specs.Phase.{Runs, Follows, rounds_asks};
+ghost use Rattle.dpx_phase.specs.Phase.{Runs, Follows, rounds_transactions};
 ghost use Rattle.dpx_phase.specs.Recovery.{Recovery, recovery, EndsRecovery, recovery_asks};
 
 use crate::steps::{read_later, write_drive, write_start};
@@ -61,9 +62,9 @@ fn start<P: AuxPort>(port: &mut P, lanes: Lanes) -> Result<PhaseEnd, AuxEnd>
 
 /// Reads statuses, and writes the drives that they ask for, until one ends the phase.
 fn adjust<P: AuxPort>(port: &mut P, lanes: Lanes) -> Result<PhaseEnd, AuxEnd>
-    requires { CanAsk (rounds_asks recovery_reads) (P.state port.old) }
+    requires { CanAsk (asks_at_most * rounds_transactions recovery_reads) (P.state port.old) }
     ensures follows { Converses (Follows (recovery lanes)) (P.state port.old) (P.state port.new) result }
-    ensures few { AsksAtMost (rounds_asks recovery_reads) (P.state port.old) (P.state port.new) }
+    ensures few { AsksAtMost (asks_at_most * rounds_transactions recovery_reads) (P.state port.old) (P.state port.new) }
     ensures end { IfOk result (EndsRecovery lanes) }
 {
     let mut level = Level {
