@@ -4,7 +4,7 @@ use Rattle.std.specs.Prelude.{◌≡◌, ℕ, Bool, true, false, List, [], ◌�
 use Rattle.dpx_base.specs.declared.aux_port.Answer.{Answer}
 use Rattle.dpx_base.specs.declared.aux_port.Entry.{Entry}
 use Rattle.dpx_base.specs.declared.aux_port.Entry.TheVariants.{Waited}
-use Rattle.dpx_base.specs.Port.{PortState, Added, answers_of}
+use Rattle.dpx_base.specs.Port.{PortState, Added, answers_in}
 
 -- a call did this part with its port, whether or not the port tells the entries
 pub record Converses {Plan R : Type 0} (part : R → List Entry → Type 0) (before now : PortState Plan) (given : R)
@@ -48,4 +48,12 @@ pub record Choice {R : Type 0} (test : Bool) (yes no : R → List Entry → Type
 abbrev pub IsDecided : {R : Type 0} → (R → List Entry → Type 0) → Type 0
 IsDecided {R} part =
     (r s : R) (xs ys : List Entry) (later after : List Answer) → part r xs → part s ys
-    → answers_of xs ++ later ≡ answers_of ys ++ after → (xs ≡ ys) × (r ≡ s)
+    → answers_in xs ++ later ≡ answers_in ys ++ after → (xs ≡ ys) × (r ≡ s)
+
+-- whatever this part gives, its history has this property
+abbrev pub HistoriesAre : {R : Type 0} → (R → List Entry → Type 0) → (List Entry → Type 0) → Type 0
+HistoriesAre {R} part Is = (given : R) (history : List Entry) → part given history → Is history
+
+-- whatever the history of this part, what it gives has this property
+abbrev pub ResultsAre : {R : Type 0} → (R → List Entry → Type 0) → (R → Type 0) → Type 0
+ResultsAre {R} part Is = (given : R) (history : List Entry) → part given history → Is given

@@ -9,7 +9,7 @@ use Rattle.dpx_base.specs.declared.pixel.Pixel.{Pixel}
 use Rattle.dpx_base.specs.declared.rate.Rate.TheVariants.{Rbr}
 use Rattle.dpx_base.specs.declared.slot.Slot.TheVariants.{Fill, Group, VbId, Msa, Be, Valid, Stuff, Ended}
 use Rattle.dpx_base.specs.declared.slot.Stuffing.TheVariants.{Fs, Zero, Fe}
-use Rattle.dpx_base.specs.Attributes.{attribute_bytes, block_byte, column_place}
+use Rattle.dpx_base.specs.Attributes.{attributes_bytes, block_byte, column_symbol}
 use Rattle.dpx_base.specs.Packing.{Line, line_byte, line_bit}
 use Rattle.dpx_base.specs.Plan.{PlanFacts, timing, clocks}
 use Rattle.dpx_base.specs.Sets.{black}
@@ -134,19 +134,19 @@ default_slots = refl
 
 -- ---- attributes
 
-columns : attribute_bytes (small Eight true).mode (small Eight true).link
+columns : attributes_bytes (small Eight true).mode (small Eight true).link
     ≡ 0x00 ∷ 0xd2 ∷ 0xf0 ∷ 0x00 ∷ 0x1c ∷ 0x00 ∷ 0x04 ∷ 0x00 ∷ 0x04
     ∷ 0x00 ∷ 0xd2 ∷ 0xf0 ∷ 0x00 ∷ 0x08 ∷ 0x00 ∷ 0x02 ∷ 0x00 ∷ 0x01
     ∷ 0x00 ∷ 0xd2 ∷ 0xf0 ∷ 0x00 ∷ 0x10 ∷ 0x00 ∷ 0x02 ∷ 0x00 ∷ 0x00
     ∷ 0x00 ∷ 0xd2 ∷ 0xf0 ∷ 0x02 ∷ 0x78 ∷ 0xd0 ∷ 0x21 ∷ 0x00 ∷ 0x00 ∷ []
-unfolding attribute_bytes
+unfolding attributes_bytes
 columns = refl
 
 -- lane 0 carries columns 0 and 2, lane 1 columns 1 and 3
-lane_columns : map (column_place Two 0) (0 ∷ 8 ∷ 9 ∷ 17 ∷ []) ≡ 0 ∷ 8 ∷ 18 ∷ 26 ∷ []
+lane_columns : map (column_symbol Two 0) (0 ∷ 8 ∷ 9 ∷ 17 ∷ []) ≡ 0 ∷ 8 ∷ 18 ∷ 26 ∷ []
 lane_columns = refl
 
-other_columns : map (column_place Two 1) (0 ∷ 8 ∷ 9 ∷ 17 ∷ []) ≡ 9 ∷ 17 ∷ 27 ∷ 35 ∷ []
+other_columns : map (column_symbol Two 1) (0 ∷ 8 ∷ 9 ∷ 17 ∷ []) ≡ 9 ∷ 17 ∷ 27 ∷ 35 ∷ []
 other_columns = refl
 
 blank_block : map (block_byte (small Eight true).mode true) (range_with_len 0 6)

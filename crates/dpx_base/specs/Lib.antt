@@ -1,3 +1,4 @@
+pub mod Asks
 pub mod Attributes
 pub mod Beam
 pub mod BeamFields

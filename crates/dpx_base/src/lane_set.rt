@@ -1,5 +1,5 @@
 ghost use Rattle.std.specs.Prelude.{◌≡◌, ◌<◌, ◌≤◌, length, map, replicate, slice_get, Some};
-ghost use Rattle.dpx_base.specs.Lanes.{count_of};
+ghost use Rattle.dpx_base.specs.Lanes.{lanes_count};
 ghost use Rattle.dpx_base.specs.Symbols.{data_symbol};
 
 use crate::{LaneBytes, Lanes, Sym};
@@ -64,7 +64,7 @@ impl LaneSet {
 
     /// The same symbol on each lane.
     pub fn on_each(lanes: Lanes, symbol: Sym) -> LaneSet
-        ensures { result ≡ replicate (count_of lanes) symbol }
+        ensures { result ≡ replicate (lanes_count lanes) symbol }
     {
         match lanes {
             Lanes::One => LaneSet {

@@ -8,14 +8,14 @@
 //! * `fault`: what an object of the outside answers where it fails, and want of memory
 //! * `source`, `sink`: bytes that are read, bytes that are written
 //! * `mem_source`, `mem_sink`: the two over memory, with faults at chosen calls
-//! * `bounded_bytes`: a list of bytes whose length is bounded
+//! * `bounded_list`: a list whose length is bounded both ways
 //! * `aux_port`: the AUX channel, as requests, answers and their history
 #![tactic(auto)]
 
 mod arrivals;
 mod aux_port;
 mod beam;
-mod bounded_bytes;
+mod bounded_list;
 mod depth;
 mod fault;
 mod lane_bytes;
@@ -42,7 +42,7 @@ mod workers;
 pub use arrivals::Arrivals;
 pub use aux_port::{Answer, AuxPort, Entry};
 pub use beam::Beam;
-pub use bounded_bytes::{BoundedBytes, Bytes20};
+pub use bounded_list::{BoundedList, Bytes20};
 pub use depth::Depth;
 pub use fault::{Failed, Memory};
 pub use lane_bytes::LaneBytes;

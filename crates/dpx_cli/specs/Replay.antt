@@ -17,7 +17,7 @@ use Rattle.dpx_files.specs.declared.refusal.JobBad.{JobBad}
 use Rattle.dpx_files.specs.declared.refusal.JobBad.TheVariants.{TooLong, Memory}
 use Rattle.dpx_files.specs.Job.{reading, longest_job, plan_asked}
 use Rattle.dpx_link.specs.declared.train_end.TrainEnd.{TrainEnd}
-use Rattle.dpx_link.specs.Training.{Training, IsGood}
+use Rattle.dpx_link.specs.Training.{Training, TrainedIsDone}
 use Rattle.dpx_cli.specs.declared.outcome.Outcome.{Outcome}
 use Rattle.dpx_cli.specs.declared.outcome.Outcome.TheVariants as outcome
 use Rattle.dpx_cli.specs.Outcome.{memory_line, job_report, report_of, status_of, train_status}
@@ -34,7 +34,7 @@ pub record TrainedWith (link : Link) (plan : SinkPlan) (sink : PortState SinkPla
   pub history : IfSome sink.history (λ told. told ≡ entries)
   pub counted : sink.asked ≡ asks entries
   pub few : sink.asked ≤ 3104
-  pub good : IsGood end
+  pub good : TrainedIsDone end
   pub as_planned : IfSome sink.plan (λ told. IfSome sink.history (λ _. EndsAsPlanned told link end))
 
 -- The link and the sink were those of the job that the source had, which was read to its end.

@@ -36,32 +36,32 @@ pub fn replay<S: Source, P: LoadPort, O: Sink>(
     // Words and jobs that have no reading.
     ensures usage { Exactly 2 (command_in words.now ≡ None) result }
     ensures usage_changes_only_out { result ≡ 2 → (src.new ≡ src.old) × (aux.new ≡ aux.old) }
-    ensures usage_is_printed { result ≡ 2 → Appends (O.taken out.old) (O.taken out.new) usage_line }
+    ensures usage_is_printed { result ≡ 2 → Appends (O.seen out.old).taken (O.seen out.new).taken usage_line }
     ensures job_refused { IsSome (command_in words.now)
-        → IfSome (S.left src.old) (λ bytes. Exactly 3 (IsNoJob bytes) result) }
+        → IfSome (S.seen src.old).left (λ bytes. Exactly 3 (IsNoJob bytes) result) }
     ensures refused_says_why { result ≡ 3
-        → Refused (S.left src.old) (S.left src.new) (O.taken out.old) (O.taken out.new) }
+        → Refused (S.seen src.old).left (S.seen src.new).left (O.seen out.old).taken (O.seen out.new).taken }
     ensures refused_keeps_sink { result ≡ 3 → aux.new ≡ aux.old }
 
     // Training: what 0 and 4 say. Whatever the status, the sink is as it was or was trained, and a job that has a
     // reading was trained, but for faults and want of memory.
     ensures ended { SaysEnded result
-        → Ended (S.left src.old) (S.left src.new) (P.state aux.new) (O.taken out.old) (O.taken out.new) result }
+        → Ended (S.seen src.old).left (S.seen src.new).left (P.state aux.new) (O.seen out.old).taken (O.seen out.new).taken result }
     ensures sink_kept_or_trained { (aux.new ≡ aux.old)
-        ⊎ Loaded (S.left src.old) (S.left src.new) (P.state aux.new) }
-    ensures trained_wherever_asked { IsSome (command_in words.now) → IsSomeAnd (S.left src.old) IsJob
+        ⊎ Loaded (S.seen src.old).left (S.seen src.new).left (P.state aux.new) }
+    ensures trained_wherever_asked { IsSome (command_in words.now) → IsSomeAnd (S.seen src.old).left IsJob
         → IsClean result
-        → Ended (S.left src.old) (S.left src.new) (P.state aux.new) (O.taken out.old) (O.taken out.new) result }
+        → Ended (S.seen src.old).left (S.seen src.new).left (P.state aux.new) (O.seen out.old).taken (O.seen out.new).taken result }
 
     // Faults come only where their object counted one.
-    ensures read_fault { result ≡ 7 → Rose (S.faults src.old) (S.faults src.new) }
-    ensures write_fault { result ≡ 8 → Rose (O.faults out.old) (O.faults out.new) }
+    ensures read_fault { result ≡ 7 → Rose (S.seen src.old).faults (S.seen src.new).faults }
+    ensures write_fault { result ≡ 8 → Rose (O.seen out.old).faults (O.seen out.new).faults }
 
     // All of it: the outcome with its cause, and what was printed, also where a write failed or memory was short.
     ensures does { Does (map string_bytes words.now)
-        (S.left src.old) (S.left src.new) (Rose (S.faults src.old) (S.faults src.new)) (src.new ≡ src.old)
+        (S.seen src.old).left (S.seen src.new).left (Rose (S.seen src.old).faults (S.seen src.new).faults) (src.new ≡ src.old)
         (aux.new ≡ aux.old) (P.state aux.new)
-        (Rose (O.faults out.old) (O.faults out.new)) (O.taken out.old) (O.taken out.new) result }
+        (Rose (O.seen out.old).faults (O.seen out.new).faults) (O.seen out.old).taken (O.seen out.new).taken result }
 {
     let outcome = run(alloc, words, src, aux);
     report(alloc, out, &outcome)
@@ -70,7 +70,7 @@ pub fn replay<S: Source, P: LoadPort, O: Sink>(
 /// Does what the words ask for.
 fn run<S: Source, P: LoadPort>(alloc: Global, words: &[String], src: &mut S, aux: &mut P) -> Outcome
     ensures { Caused (map string_bytes words.now)
-        (S.left src.old) (S.left src.new) (Rose (S.faults src.old) (S.faults src.new)) (src.new ≡ src.old)
+        (S.seen src.old).left (S.seen src.new).left (Rose (S.seen src.old).faults (S.seen src.new).faults) (src.new ≡ src.old)
         (aux.new ≡ aux.old) (P.state aux.new) result }
 {
     match read_words(alloc, words) {
@@ -81,7 +81,7 @@ fn run<S: Source, P: LoadPort>(alloc: Global, words: &[String], src: &mut S, aux
 }
 
 fn train_command<S: Source, P: LoadPort>(alloc: Global, src: &mut S, aux: &mut P) -> Outcome
-    ensures { Trains (S.left src.old) (S.left src.new) (Rose (S.faults src.old) (S.faults src.new))
+    ensures { Trains (S.seen src.old).left (S.seen src.new).left (Rose (S.seen src.old).faults (S.seen src.new).faults)
         (aux.new ≡ aux.old) (P.state aux.new) result }
 {
     match job_in(alloc, src) {
@@ -102,7 +102,7 @@ fn train_with<P: LoadPort>(aux: &mut P, link: Link, plan: SinkPlan) -> TrainEnd
 
 /// Reads the job from the source.
 fn job_in<S: Source>(alloc: Global, src: &mut S) -> Result<Job, Outcome>
-    ensures { ReadsJob (S.left src.old) (S.left src.new) (Rose (S.faults src.old) (S.faults src.new)) result }
+    ensures { ReadsJob (S.seen src.old).left (S.seen src.new).left (Rose (S.seen src.old).faults (S.seen src.new).faults) result }
 {
     let bytes = match read_whole(alloc, src) {
         Ok(bytes) => bytes,
@@ -117,7 +117,7 @@ fn job_in<S: Source>(alloc: Global, src: &mut S) -> Result<Job, Outcome>
 
 /// Prints what is said of an outcome, and gives its status.
 fn report<O: Sink>(alloc: Global, out: &mut O, outcome: &Outcome) -> u8
-    ensures { Reported (Rose (O.faults out.old) (O.faults out.new)) (O.taken out.old) (O.taken out.new) result
+    ensures { Reported (Rose (O.seen out.old).faults (O.seen out.new).faults) (O.seen out.old).taken (O.seen out.new).taken result
         outcome.now }
 {
     let mut text = Report::new(alloc);
@@ -128,7 +128,7 @@ fn report<O: Sink>(alloc: Global, out: &mut O, outcome: &Outcome) -> u8
 }
 
 fn tell<O: Sink>(out: &mut O, text: &[u8], status: u8) -> u8
-    ensures { Tells (Rose (O.faults out.old) (O.faults out.new)) (O.taken out.old) (O.taken out.new) result
+    ensures { Tells (Rose (O.seen out.old).faults (O.seen out.new).faults) (O.seen out.old).taken (O.seen out.new).taken result
         text.now status }
 {
     match write_whole(out, text) {

@@ -21,8 +21,8 @@ const PIECE: usize = 4096;
 
 /// Reads to the end, or so far that the bytes are too long for a job; then no further read is made.
 pub(crate) fn read_whole<S: Source>(alloc: Global, src: &mut S) -> Result<Vec<u8>, ReadEnd>
-    ensures whole { IfOk result (λ bytes. ReadsWhole (S.left src.old) (S.left src.new) bytes.items) }
-    ensures fault { result ≡ Err ReadEnd.Fault → Rose (S.faults src.old) (S.faults src.new) }
+    ensures whole { IfOk result (λ bytes. ReadsWhole (S.seen src.old).left (S.seen src.new).left bytes.items) }
+    ensures fault { result ≡ Err ReadEnd.Fault → Rose (S.seen src.old).faults (S.seen src.new).faults }
 {
     let mut bytes = Vec::new(alloc);
     let mut piece = [0; PIECE];
@@ -43,9 +43,9 @@ pub(crate) fn read_whole<S: Source>(alloc: Global, src: &mut S) -> Result<Vec<u8
 
 /// Writes all of the bytes, or as many as are taken before a write fails.
 pub(crate) fn write_whole<O: Sink>(out: &mut O, bytes: &[u8]) -> Result<(), Failed>
-    ensures whole { OnOk result (Appends (O.taken out.old) (O.taken out.new) bytes.now) }
-    ensures front { OnErr result (AppendsFront (O.taken out.old) (O.taken out.new) bytes.now) }
-    ensures cause { HasCause (O.faults out.old) (O.faults out.new) result }
+    ensures whole { OnOk result (Appends (O.seen out.old).taken (O.seen out.new).taken bytes.now) }
+    ensures front { OnErr result (AppendsFront (O.seen out.old).taken (O.seen out.new).taken bytes.now) }
+    ensures cause { HasCause (O.seen out.old).faults (O.seen out.new).faults result }
 {
     let mut start = 0;
     while start < bytes.len() {

@@ -6,8 +6,8 @@ use Rattle.dpx_dpcd.specs.declared.caps.Caps.{Caps}
 use Rattle.dpx_dpcd.specs.declared.pattern.Pattern.TheVariants.{Tps2, Tps3, Tps4}
 use Rattle.dpx_dpcd.specs.declared.status.Drive.{Drive}
 use Rattle.dpx_dpcd.specs.declared.status.Status6.{Status6}
-use Rattle.dpx_dpcd.specs.Caps.{pattern_for}
-use Rattle.dpx_dpcd.specs.Pattern.{register_of}
+use Rattle.dpx_dpcd.specs.Caps.{caps_pattern}
+use Rattle.dpx_dpcd.specs.Pattern.{pattern_register}
 use Rattle.dpx_dpcd.specs.Status.{cr_done, eq_done}
 use Rattle.dpx_phase.specs.declared.phase_end.FailCause.{FailCause}
 use Rattle.dpx_phase.specs.declared.phase_end.FailCause.TheVariants.{MaxSwing, SameSwing, Reads}
@@ -79,11 +79,11 @@ equalisation_ends_as lanes first before status end equalised e t q =
     let drive = drive_after lanes first (before ++ status ∷ []) (length before + 1 - 1) in
     three equalised _ drive status end (sym e ∙ equalisation_looks lanes first before status ∙ ap (λ (r : Bool). first_of_three r (eq_done lanes status.bytes) (length before + 1 == 5) drive status) t ∙ ap (λ (r : Bool). first_of_three true r (length before + 1 == 5) drive status) q)
 
-chosen : (tps4 tps3 : Bool) → (register_of (if tps4 then Tps4 else if tps3 then Tps3 else Tps2) % 16 == 1) ≡ false
+chosen : (tps4 tps3 : Bool) → (pattern_register (if tps4 then Tps4 else if tps3 then Tps3 else Tps2) % 16 == 1) ≡ false
 chosen true tps3 = refl
 chosen false true = refl
 chosen false false = refl
 
 -- the pattern for equalisation is not the first one
-pub pattern_other : (caps : Caps) → (register_of (pattern_for caps) % 16 == 1) ≡ false
+pub pattern_other : (caps : Caps) → (pattern_register (caps_pattern caps) % 16 == 1) ≡ false
 pattern_other caps = chosen caps.tps4 caps.tps3

@@ -7,7 +7,7 @@ use Rattle.dpx_base.specs.declared.rate.Rate.{Rate}
 use Rattle.dpx_base.specs.declared.rate.Rate.TheVariants.{Rbr, Hbr, Hbr2, Hbr3}
 use Rattle.dpx_base.specs.declared.link.Link.{Link}
 use Rattle.dpx_dpcd.specs.Cell.{CellFacts}
-use Rattle.dpx_link.specs.Fallback.{after_recovery, after_equalisation, rate_rank}
+use Rattle.dpx_link.specs.Fallback.{after_failed_recovery, after_failed_equalisation, rate_rank}
 use Rattle.dpx_link.specs.Training.{attempts_at_most}
 use Rattle.dpx_link.proofs.Tries.{rank_of, rank_of-bound}
 use Rattle.dpx_complete.specs.Fall.{all_recover, all_equalise, along, fall_from, fall}
@@ -23,7 +23,7 @@ rate_bound Hbr3 = omega arith
 abbrev Below : Link → Option Link → Type 0
 Below link next = IfSome next (λ lower. rank_of lower < rank_of link)
 
-unrecovered_below : (first : Link) (rate : Rate) (lanes : Lanes) (enhanced : Bool) → Below (record { rate = rate; lanes = lanes; enhanced = enhanced }) (after_recovery first (record { rate = rate; lanes = lanes; enhanced = enhanced }))
+unrecovered_below : (first : Link) (rate : Rate) (lanes : Lanes) (enhanced : Bool) → Below (record { rate = rate; lanes = lanes; enhanced = enhanced }) (after_failed_recovery first (record { rate = rate; lanes = lanes; enhanced = enhanced }))
 unrecovered_below first Rbr One enhanced = tt
 unrecovered_below first Rbr Two enhanced = omega (arith, rate_bound first.rate)
 unrecovered_below first Rbr Four enhanced = omega (arith, rate_bound first.rate)
@@ -31,7 +31,7 @@ unrecovered_below first Hbr lanes enhanced = omega arith
 unrecovered_below first Hbr2 lanes enhanced = omega arith
 unrecovered_below first Hbr3 lanes enhanced = omega arith
 
-unequalised_below : (rate : Rate) (lanes : Lanes) (enhanced : Bool) → Below (record { rate = rate; lanes = lanes; enhanced = enhanced }) (after_equalisation (record { rate = rate; lanes = lanes; enhanced = enhanced }))
+unequalised_below : (rate : Rate) (lanes : Lanes) (enhanced : Bool) → Below (record { rate = rate; lanes = lanes; enhanced = enhanced }) (after_failed_equalisation (record { rate = rate; lanes = lanes; enhanced = enhanced }))
 unequalised_below rate Two enhanced = omega arith
 unequalised_below rate Four enhanced = omega arith
 unequalised_below Rbr One enhanced = tt
@@ -53,7 +53,7 @@ whole_from more channel first (suc left) link room =
     let more_left : suc left + more ≡ suc (left + more) = omega arith in
     ap (λ (n : ℕ). fall_from n channel first link) more_left
     ∙ falls_on (left + more) channel first link
-    ∙ stepped-same (all_recover channel link) (all_equalise channel link) link _ _ _ _ (along-same (fall_from (left + more) channel first) (fall_from left channel first) link (after_equalisation link) (unequalised_below link.rate link.lanes link.enhanced) shorter) (along-same (fall_from (left + more) channel first) (fall_from left channel first) link (after_recovery first link) (unrecovered_below first link.rate link.lanes link.enhanced) shorter)
+    ∙ stepped-same (all_recover channel link) (all_equalise channel link) link _ _ _ _ (along-same (fall_from (left + more) channel first) (fall_from left channel first) link (after_failed_equalisation link) (unequalised_below link.rate link.lanes link.enhanced) shorter) (along-same (fall_from (left + more) channel first) (fall_from left channel first) link (after_failed_recovery first link) (unrecovered_below first link.rate link.lanes link.enhanced) shorter)
     ∙ sym (falls_on left channel first link)
 
 pub fall_is_whole : (more : ℕ) (channel : List CellFacts) (first : Link) → fall_from (attempts_at_most + more) channel first first ≡ fall channel first

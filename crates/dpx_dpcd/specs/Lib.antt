@@ -5,6 +5,7 @@ pub mod LoadPort
 pub mod Model
 pub mod Pattern
 pub mod RegFile
+pub mod RegisterMap
 pub mod Registers
 pub mod SinkPlan
 pub mod Status

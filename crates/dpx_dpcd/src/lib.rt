@@ -1,6 +1,7 @@
 //! The registers of a sink (DPCD): capabilities, status, drive, and what a modelled sink answers.
 //!
 //! * `caps`, `pattern`: what a sink can do, and the training pattern that follows from it
+//! * `register_map`: the registers by the standard's names
 //! * `registers`: the transactions that a source makes of them
 //! * `channel`, `plan`: how a modelled channel behaves, and what a sink is to answer
 //! * `register_file`: the registers of a modelled sink
@@ -14,6 +15,7 @@ mod load_port;
 mod pattern;
 mod plan;
 mod register_file;
+pub mod register_map;
 mod registers;
 mod status;
 

@@ -38,14 +38,6 @@ pub record MadeOfAtMost (most : ℕ) (history : List Entry) : Type 0 where
   pub few : count ≤ most
   pub made : MadeOf count history
 
--- whatever this part gives, its history has this property
-abbrev pub HistoriesAre : {R : Type 0} → (R → List Entry → Type 0) → (List Entry → Type 0) → Type 0
-HistoriesAre {R} part Is = (given : R) (history : List Entry) → part given history → Is history
-
--- whatever the history of this part, what it gives has this property
-abbrev pub ResultsAre : {R : Type 0} → (R → List Entry → Type 0) → (R → Type 0) → Type 0
-ResultsAre {R} part Is = (given : R) (history : List Entry) → part given history → Is given
-
 -- what follows an attempt never has more lanes, and on the same lanes a lower rate
 abbrev pub FallsAlways : Type 0
 FallsAlways = (first link : Link) (end : AttemptEnd) → Falls link (next_of first link end)

@@ -1,9 +1,9 @@
 //! Laws of the definitions that training is proved against. Each function's contract is the law.
 ghost use Rattle.std.specs.Prelude.{◌≤◌};
 ghost use Rattle.dpx_base.specs.Port.{asks};
-ghost use Rattle.dpx_aux.specs.Conversation.{IsDecided};
-ghost use Rattle.dpx_link.specs.Laws.{MadeOfAtMost, HistoriesAre, ResultsAre, FallsAlways};
-ghost use Rattle.dpx_link.specs.Training.{Training, IsGood};
+ghost use Rattle.dpx_aux.specs.Conversation.{IsDecided, HistoriesAre, ResultsAre};
+ghost use Rattle.dpx_link.specs.Laws.{MadeOfAtMost, FallsAlways};
+ghost use Rattle.dpx_link.specs.Training.{Training, TrainedIsDone, training_transactions, training_asks};
 
 use dpx_base::Link;
 
@@ -19,11 +19,11 @@ pub fn falls_in_order()
 
 /// A training has at most 4 transactions, and 32 for each of 12 attempts; each asks at most 8 times.
 pub fn is_bounded(top: Link)
-    ensures transactions { HistoriesAre (Training top) (MadeOfAtMost 388) }
-    ensures asks { HistoriesAre (Training top) (λ history. asks history ≤ 3104) }
+    ensures transactions { HistoriesAre (Training top) (MadeOfAtMost training_transactions) }
+    ensures asks { HistoriesAre (Training top) (λ history. asks history ≤ training_asks) }
 {}
 
 /// A training says Trained only where the last status shows every lane in use done, whatever its history.
 pub fn trained_is_good(top: Link)
-    ensures { ResultsAre (Training top) IsGood }
+    ensures { ResultsAre (Training top) TrainedIsDone }
 {}

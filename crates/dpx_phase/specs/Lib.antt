@@ -1,4 +1,6 @@
 pub mod Drives
 pub mod Endings
+pub mod Equalisation
 pub mod Laws
-pub mod Phases
+pub mod Phase
+pub mod Recovery

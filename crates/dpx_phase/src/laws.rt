@@ -1,8 +1,9 @@
 //! Laws of the definitions that the phases are proved against. Each function's contract is the law.
-ghost use Rattle.dpx_aux.specs.Conversation.{IsDecided};
+ghost use Rattle.dpx_aux.specs.Conversation.{IsDecided, ResultsAre};
 ghost use Rattle.dpx_phase.specs.Endings.{recovery_ends, equalisation_ends};
-ghost use Rattle.dpx_phase.specs.Laws.{EndsOnce, EndsWithin, IsAlways};
-ghost use Rattle.dpx_phase.specs.Phases.{Recovery, Equalisation, EndsRecovery, EndsEqualisation};
+ghost use Rattle.dpx_phase.specs.Laws.{EndsOnce, EndsWithin};
+ghost use Rattle.dpx_phase.specs.Equalisation.{Equalisation, EndsEqualisation};
+ghost use Rattle.dpx_phase.specs.Recovery.{Recovery, EndsRecovery};
 
 use dpx_base::{Lanes, Link};
 use dpx_dpcd::{Drive, Pattern};
@@ -27,6 +28,6 @@ pub fn is_decided(link: Link, pattern: Pattern, drive: Drive, interval: u8)
 
 /// Whatever the history, the end says of the last status what the conditions looked at.
 pub fn is_honest(link: Link, pattern: Pattern, drive: Drive, interval: u8)
-    ensures recovery { IsAlways (Recovery link) (EndsRecovery link.lanes) }
-    ensures equalisation { IsAlways (Equalisation link pattern drive interval) (EndsEqualisation link.lanes) }
+    ensures recovery { ResultsAre (Recovery link) (EndsRecovery link.lanes) }
+    ensures equalisation { ResultsAre (Equalisation link pattern drive interval) (EndsEqualisation link.lanes) }
 {}

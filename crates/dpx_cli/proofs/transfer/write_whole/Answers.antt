@@ -1,4 +1,4 @@
-use Rattle.std.proofs.Common.{◌≡◌, ◌-◌, length, take, drop, sym, ap, arith, length-drop}
+use Rattle.std.proofs.Common.{◌≡◌, ◌-◌, length, take, drop, sym, ap, ◌∙◌, arith, length-drop}
 use Rattle.std.proofs.Math.Seq.{take-add}
 use Rattle.std.proofs.lemmas.List.{take_rest, take-append-drop}
 use Rattle.std.proofs.lemmas.Result.{err_from_is_err_and}
@@ -27,5 +27,5 @@ loop-start-preserved g c =
     record {
       within = omega (arith, c.in_ok-start.ensures.within, ap length (take_rest bytes start), length-drop start bytes);
       taken = rw (take-add start n bytes, ← piece) taken;
-      kept = omega (arith, c.in_ok-start.ensures.cause.kept);
+      calm = c.in_ok-start.ensures.cause.calm ∙ c.loop-start.invariant.calm;
     }

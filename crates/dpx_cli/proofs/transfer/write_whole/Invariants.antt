@@ -1,4 +1,4 @@
-use Rattle.std.proofs.Common.{◌≤◌, ◌-◌, length, take}
+use Rattle.std.proofs.Common.{◌≡◌, ◌≤◌, ◌-◌, length, take}
 use Rattle.std.specs.Io.KnownBytes.{Appends}
 use Rattle.dpx_cli.proofs.transfer.write_whole.Given as goal
 
@@ -6,8 +6,8 @@ use Rattle.dpx_cli.proofs.transfer.write_whole.Given as goal
 abbrev pub invariant-loop-start : goal.invariant-loop-start
 invariant-loop-start g l = record {
   within : l.start ≤ length l.bytes;
-  taken : Appends (g.O.Sink.taken l.fn.out) (g.O.Sink.taken l.out) (take l.start l.bytes);
-  kept : g.O.Sink.faults l.fn.out ≤ g.O.Sink.faults l.out;
+  taken : Appends (g.O.Sink.seen l.fn.out).taken (g.O.Sink.seen l.out).taken (take l.start l.bytes);
+  calm : (g.O.Sink.seen l.out).faults ≡ (g.O.Sink.seen l.fn.out).faults;
 }
 
 abbrev pub decreases-loop-start : goal.decreases-loop-start

@@ -1,0 +1,11 @@
+-- Bounds on the asks of a port: this project's own.
+use Rattle.std.specs.Prelude.{ℕ, ◌+◌, ◌^◌, ◌<◌, ◌≤◌}
+use Rattle.dpx_base.specs.Port.{PortState}
+
+-- so many asks more can be counted
+abbrev pub CanAsk : {Plan : Type 0} → ℕ → PortState Plan → Type 0
+CanAsk most now = now.asked + most < 2 ^ 64
+
+-- at most so many asks were made
+abbrev pub AsksAtMost : {Plan : Type 0} → ℕ → PortState Plan → PortState Plan → Type 0
+AsksAtMost most before now = now.asked ≤ before.asked + most
