@@ -18,3 +18,4 @@ pub mod Slots
 pub mod Symbols
 pub mod Timing
 pub mod TimingLaws
+pub mod Unpacking
