@@ -24,3 +24,4 @@ pub mod Slots
 pub mod Symbols
 pub mod Timing
 pub mod TimingLaws
+pub mod Unpacking
