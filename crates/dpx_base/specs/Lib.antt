@@ -1,7 +1,10 @@
 pub mod Attributes
 pub mod Beam
+pub mod Capture
+pub mod Code
 pub mod Faults
 pub mod InPipe
+pub mod Key
 pub mod Lanes
 pub mod Mode
 pub mod Packing
@@ -18,3 +21,4 @@ pub mod Slots
 pub mod Symbols
 pub mod Timing
 pub mod TimingLaws
+pub mod Words
