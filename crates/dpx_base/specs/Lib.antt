@@ -2,7 +2,10 @@ pub mod Asks
 pub mod Attributes
 pub mod Beam
 pub mod BeamFields
+pub mod Capture
+pub mod Code
 pub mod Faults
+pub mod Key
 pub mod Lanes
 pub mod MemPipe
 pub mod MemPipeFields
@@ -25,3 +28,4 @@ pub mod Symbols
 pub mod Timing
 pub mod TimingLaws
 pub mod Unpacking
+pub mod Words
