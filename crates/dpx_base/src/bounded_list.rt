@@ -12,7 +12,8 @@ pub struct BoundedList<T: Copy + Drop + Default, const LEAST: usize, const MOST:
 /// The bytes of an AUX request or of its reply.
 pub type Bytes20 = BoundedList<u8, 0, 20>;
 
-impl<T: Copy + Drop + Default, const LEAST: usize, const MOST: usize> Model for BoundedList<T, LEAST, MOST> {
+impl<T: Copy + Drop + Default, const LEAST: usize, const MOST: usize> Model
+    for BoundedList<T, LEAST, MOST> {
     ghost use Rattle.std.specs.Prelude.{◌≤◌, List, length};
 
     ghost Value = { List T };
