@@ -50,6 +50,10 @@ IsDecided {R} part =
     (r s : R) (xs ys : List Entry) (later after : List Answer) → part r xs → part s ys
     → answers_in xs ++ later ≡ answers_in ys ++ after → (xs ≡ ys) × (r ≡ s)
 
+-- whatever this part gives and whatever its history, the two are related so
+abbrev pub AlwaysIs : {R : Type 0} → (R → List Entry → Type 0) → (R → List Entry → Type 0) → Type 0
+AlwaysIs {R} part Is = (given : R) (history : List Entry) → part given history → Is given history
+
 -- whatever this part gives, its history has this property
 abbrev pub HistoriesAre : {R : Type 0} → (R → List Entry → Type 0) → (List Entry → Type 0) → Type 0
 HistoriesAre {R} part Is = (given : R) (history : List Entry) → part given history → Is history

@@ -2,3 +2,4 @@ pub mod Bounded
 pub mod Decided
 pub mod Good
 pub mod Tries
+pub mod LastStatus

@@ -1,7 +1,8 @@
 //! Laws of the definitions that training is proved against. Each function's contract is the law.
 ghost use Rattle.std.specs.Prelude.{◌≤◌};
 ghost use Rattle.dpx_base.specs.Port.{asks};
-ghost use Rattle.dpx_aux.specs.Conversation.{IsDecided, HistoriesAre, ResultsAre};
+ghost use Rattle.dpx_aux.specs.Conversation.{AlwaysIs, IsDecided, HistoriesAre, ResultsAre};
+ghost use Rattle.dpx_link.specs.LastStatus.{TrainingIsRead};
 ghost use Rattle.dpx_link.specs.Laws.{MadeOfAtMost, FallsAlways};
 ghost use Rattle.dpx_link.specs.Training.{Training, TrainedIsDone, training_transactions, training_asks};
 
@@ -26,4 +27,10 @@ pub fn is_bounded(top: Link)
 /// A training says Trained only where the last status shows every lane in use done, whatever its history.
 pub fn trained_is_good(top: Link)
     ensures { ResultsAre (Training top) TrainedIsDone }
+{}
+
+/// Whatever its history, the status that a training tells is the last one that was read; and the drive of a trained
+/// link is the last one that was written, right before that read.
+pub fn is_read_last(top: Link)
+    ensures { AlwaysIs (Training top) TrainingIsRead }
 {}

@@ -7,3 +7,4 @@ pub mod Turns
 pub mod Least
 pub mod Decided
 pub mod Honest
+pub mod LastStatus

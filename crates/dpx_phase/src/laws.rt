@@ -1,6 +1,7 @@
 //! Laws of the definitions that the phases are proved against. Each function's contract is the law.
-ghost use Rattle.dpx_aux.specs.Conversation.{IsDecided, ResultsAre};
+ghost use Rattle.dpx_aux.specs.Conversation.{AlwaysIs, IsDecided, ResultsAre};
 ghost use Rattle.dpx_phase.specs.Endings.{recovery_ends, equalisation_ends};
+ghost use Rattle.dpx_phase.specs.LastStatus.{EndIsRead};
 ghost use Rattle.dpx_phase.specs.Laws.{EndsOnce, EndsWithin};
 ghost use Rattle.dpx_phase.specs.Equalisation.{Equalisation, EndsEqualisation};
 ghost use Rattle.dpx_phase.specs.Recovery.{Recovery, EndsRecovery};
@@ -30,4 +31,11 @@ pub fn is_decided(link: Link, pattern: Pattern, drive: Drive, interval: u8)
 pub fn is_honest(link: Link, pattern: Pattern, drive: Drive, interval: u8)
     ensures recovery { ResultsAre (Recovery link) (EndsRecovery link.lanes) }
     ensures equalisation { ResultsAre (Equalisation link pattern drive interval) (EndsEqualisation link.lanes) }
+{}
+
+/// Whatever the history, the status that an end tells is the last one that was read; and the drive that Done tells is
+/// the last one that was written, right before that read.
+pub fn is_read_last(link: Link, pattern: Pattern, drive: Drive, interval: u8)
+    ensures recovery { AlwaysIs (Recovery link) (EndIsRead link.lanes) }
+    ensures equalisation { AlwaysIs (Equalisation link pattern drive interval) (EndIsRead link.lanes) }
 {}
