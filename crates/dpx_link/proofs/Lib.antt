@@ -3,3 +3,5 @@ pub mod Decided
 pub mod Good
 pub mod Tries
 pub mod LastStatus
+pub mod Waits
+pub mod FallsBack
