@@ -1,7 +1,7 @@
 //! Laws of the definitions that training is proved against. Each function's contract is the law.
 ghost use Rattle.std.specs.Prelude.{◌≤◌, length};
 ghost use Rattle.dpx_base.specs.Port.{asks};
-ghost use Rattle.dpx_aux.specs.Conversation.{AlwaysIs, IsDecided, HistoriesAre, ResultsAre};
+ghost use Rattle.dpx_aux.specs.Conversation.{AlwaysIs, IsDecided, HistoriesAre, ResultsAre, Suffices};
 ghost use Rattle.dpx_link.specs.LastStatus.{TrainingIsRead};
 ghost use Rattle.dpx_link.specs.Laws.{MadeOfAtMost, FallsAlways, RecoveryAlwaysFallsBack, EqualisationAlwaysFallsBack};
 ghost use Rattle.dpx_link.specs.Training.{Training, TrainedIsDone, training_transactions, training_asks};
@@ -12,6 +12,11 @@ use dpx_base::Link;
 /// For given answers there is one training of `top`: one history and one end.
 pub fn one_history(top: Link)
     ensures { IsDecided (Training top) }
+{}
+
+/// Of every 3,104 answers, whatever they are, some front is the answers of a training of `top`.
+pub fn some_history(top: Link)
+    ensures { Suffices training_asks (Training top) }
 {}
 
 /// What is tried next never has more lanes, and on the same lanes it has a lower rate.

@@ -8,3 +8,4 @@ pub mod Least
 pub mod Decided
 pub mod Honest
 pub mod LastStatus
+pub mod Suffices
