@@ -1,0 +1,5 @@
+pub mod Fit
+pub mod Kept
+pub mod KeptParts
+pub mod Numbers
+pub mod Schedule
