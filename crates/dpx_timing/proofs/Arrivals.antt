@@ -17,13 +17,20 @@ pub arrived_here : (r : Timing) (t line : ℕ) → IsPossible r → line ≡ tic
     → arrived r line t ≡ ticks r t % r.htotal - (r.htotal - r.width)
 unfolding arrived first_tick
 arrived_here r t line possible e =
-    omega (arith, div-add-mod' (ticks r t) r.htotal, mod-lt (ticks r t) (some r possible), ap (λ z. z * r.htotal) e, possible.width_to)
+    omega (
+      arith,
+      div-add-mod' (ticks r t) r.htotal,
+      mod-lt (ticks r t) (some r possible),
+      ap (λ z. z * r.htotal) e,
+      possible.width_to,
+    )
   where
     some : (r : Timing) → IsPossible r → 0 < r.htotal
     some r possible = omega (arith, possible.width_from, possible.width_to)
 
 -- of an earlier line all have
-pub arrived_before : (r : Timing) (t line : ℕ) → IsPossible r → line < ticks r t / r.htotal → arrived r line t ≡ r.width
+pub arrived_before : (r : Timing) (t line : ℕ) → IsPossible r → line < ticks r t / r.htotal
+    → arrived r line t ≡ r.width
 unfolding arrived first_tick
 arrived_before r t line possible h =
     omega (arith, div-add-mod' (ticks r t) r.htotal, mul-le-mul_right r.htotal h, possible.width_to)

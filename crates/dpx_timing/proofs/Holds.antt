@@ -1,16 +1,19 @@
 -- What holds of every line that fits, and of every plan.
 use Rattle.std.proofs.Common.{ℕ, zero, suc, ◌+◌, ◌<◌, ◌≤◌, ◌≡◌, arith, inl, inr}
 use Rattle.std.proofs.lemmas.Bool.{cases_lt}
-use Rattle.dpx_base.specs.Timing.{Timing, IsPossible, IsFit, NeverShort, NeverOver, symbols, carried, place, start, sent_among, sent, last_unit}
+use Rattle.dpx_base.specs.Timing.{Timing, IsPossible, IsFit, NeverShort, NeverOver, symbols, carried, place, start}
+use Rattle.dpx_base.specs.Timing.{sent_among, sent, last_unit}
 use Rattle.dpx_base.specs.TimingLaws.{IsCadence, IsApart, IsSending}
 use Rattle.dpx_base.specs.Plan.{PlanFacts, IsPlan, timing}
 use Rattle.dpx_timing.specs.Schedule.{IsSchedule}
-use Rattle.dpx_timing.proofs.Headers.{attributes_end}
+use Rattle.dpx_timing.proofs.Headers.{attributes_fit}
 use Rattle.dpx_timing.proofs.Over.{line_never_over}
 use Rattle.dpx_timing.proofs.Short.{line_never_short}
 use Rattle.dpx_timing.proofs.Sizes.{plan_possible, bound_small}
-use Rattle.dpx_timing.proofs.Units.{carried_rises, unit_starts, unit_ends, unit_one, unit_holds, unit_gives, place_rises, place_strict, place_from}
-use Rattle.dpx_timing.proofs.Lines.{last_unit_ends, last_unit_least, start_gap, sent_by_end, one_line_waits, last_unit_starts}
+use Rattle.dpx_timing.proofs.Units.{carried_rises, unit_starts, unit_ends, unit_one, unit_holds, unit_gives}
+use Rattle.dpx_timing.proofs.Units.{place_rises, place_strict, place_from}
+use Rattle.dpx_timing.proofs.Lines.{last_unit_ends, last_unit_least, start_gap, sent_by_end, one_line_waits}
+use Rattle.dpx_timing.proofs.Lines.{last_unit_starts}
 use Rattle.dpx_timing.proofs.Counts.{sent_next, sent_stays, sent_most, all_sent}
 
 pub never_short : (r : Timing) → IsPossible r → IsFit r → NeverShort r
@@ -41,11 +44,16 @@ apart r legal fit = record {
 }
 
 -- a symbol after one that has not gone out has not gone out
-pub count_stops : (r : Timing) (line t s j : ℕ) → s ≤ j → ((i : ℕ) → s ≤ i → i < j → t ≤ place r line i) → sent_among r line t j ≡ sent_among r line t s
+pub count_stops : (r : Timing) (line t s j : ℕ) → s ≤ j → ((i : ℕ) → s ≤ i → i < j → t ≤ place r line i)
+    → sent_among r line t j ≡ sent_among r line t s
 count_stops r line t s zero h k = let e : s ≡ 0 = omega arith in rw e
 count_stops r line t s (suc j) h k = elim (cases_lt j s) [
   | inl whole ↦ let e : s ≡ suc j = omega arith in rw e
-  | inr less ↦ omega (arith, sent_stays r line t j (k j less (omega arith)), count_stops r line t s j less (λ i a b. k i a (omega arith)))
+  | inr less ↦ omega (
+    arith,
+    sent_stays r line t j (k j less (omega arith)),
+    count_stops r line t s j less (λ i a b. k i a (omega arith)),
+  )
 ]
 
 -- the count of symbols that have gone out is s where the first s have and the next has not
@@ -81,7 +89,9 @@ sent_all r line t = sent_most r line t (symbols r)
 
 pub sending : (r : Timing) → IsPossible r → IsFit r → IsSending r
 sending r legal fit = record {
-  at_first = λ line. sent_is r line (start r line) 0 legal fit (omega arith) (λ i h. absurd (omega arith)) (λ h. place_from r line 0);
+  at_first =
+      λ line. sent_is r line (start r line) 0 legal fit (omega arith) (λ i h. absurd (omega arith))
+      (λ h. place_from r line 0);
   takes = λ line t more now. sent_is r line (t + 1) (sent r line t + 1) legal fit (omega arith)
       (λ i h. omega (arith, place_rises r line i (sent r line t) legal fit (omega arith) more))
       (λ h. omega (arith, place_strict r line (sent r line t) (sent r line t + 1) legal fit (omega arith) h));
@@ -100,7 +110,7 @@ schedule p plan = record {
   cadence = cadence (timing p) possible plan.fits;
   apart = apart (timing p) possible plan.fits;
   sending = sending (timing p) possible plan.fits;
-  attributes_end = attributes_end p plan;
+  attributes_end = λ line. attributes_fit p line plan;
 }
   where
     possible : IsPossible (timing p)

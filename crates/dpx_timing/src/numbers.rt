@@ -1,10 +1,10 @@
 ghost use Rattle.std.specs.Prelude.{◌≡◌, ◌≤◌, ◌<◌, ◌+◌, ◌-◌, ◌*◌, ◌^◌};
-ghost use Rattle.dpx_base.specs.Timing.{IsFit, n, m, symbols, symbols_of, unit_of, carried, delay, start, line_end};
-ghost use Rattle.dpx_base.specs.Timing.{gap, bound};
+ghost use Rattle.dpx_base.specs.Timing.{IsFit, n, m, symbols, symbols_of, unit_of, carried, delay, due, last_unit};
+ghost use Rattle.dpx_base.specs.Timing.{line_end, gap, bound};
 ghost use Rattle.dpx_base.specs.Plan.{timing_of, group_length, block_length};
 ghost use Rattle.dpx_base.specs.Lanes.{count_of};
 ghost use Rattle.dpx_base.specs.Mode.{IsLegal, pixel_bits};
-ghost use Rattle.dpx_timing.specs.Numbers.{timing_in, IsSmall};
+ghost use Rattle.dpx_timing.specs.Numbers.{timing_in, clocks_of, IsSmall};
 
 use crate::division::{ceil, floor};
 use dpx_base::{Depth, Lanes, Link, Mode};
@@ -101,6 +101,7 @@ impl Numbers {
         requires small { IsSmall (timing_in self) }
         requires units { units ≤ 8192 * 48 }
         ensures value { result ≡ carried (timing_in self) units }
+        ensures few { result ≤ symbols (timing_in self) }
     {
         self.symbols()
             .min(floor(units * self.unit * self.n(), self.m()))
@@ -119,29 +120,39 @@ impl Numbers {
         1 + self.unit - floor(self.unit * n, m) + ceil((self.bits + 8) * m, 8 * n)
     }
 
-    #[tactic(auto, unfolding(dpx_base::specs::Timing::start, dpx_base::specs::Timing::due, dpx_base::specs::Timing::first_tick))]
-    fn start(self, line: u128) -> u128
+    /// The clock in which a line's first pixel is due.
+    #[tactic(auto, unfolding(dpx_base::specs::Timing::due, dpx_base::specs::Timing::first_tick))]
+    fn due(self, line: u128) -> u128
         requires small { IsSmall (timing_in self) }
         requires line { line ≤ 65535 * 65535 }
-        requires not_too_fast { n (timing_in self) ≤ m (timing_in self) }
         requires not_too_slow { m (timing_in self) ≤ self.unit * n (timing_in self) }
-        ensures value { result ≡ start (timing_in self) line }
-        ensures small { result ≤ 2 ^ 57 + 1024 }
+        ensures value { result ≡ due (timing_in self) line }
+        ensures small { result ≤ 2 ^ 57 }
     {
         let first = line * self.htotal + (self.htotal - self.width);
-        floor(first * self.symbol_clock, self.pixel_clock) + self.delay()
+        floor(first * self.symbol_clock, self.pixel_clock)
     }
 
-    #[tactic(auto, using(crate::proofs::Sizes::last_unit_small, crate::proofs::Sizes::legal_small, crate::proofs::Units::carried_all), unfolding(dpx_base::specs::Timing::line_end, dpx_base::specs::Timing::last_unit))]
+    /// The last unit of a line that carries a symbol.
+    #[tactic(auto, unfolding(dpx_base::specs::Timing::last_unit))]
+    fn last_unit(self) -> u128
+        requires small { IsSmall (timing_in self) }
+        requires not_too_slow { m (timing_in self) ≤ self.unit * n (timing_in self) }
+        ensures value { result ≡ last_unit (timing_in self) }
+        ensures few { result < 8192 * 48 }
+    {
+        self.unit_of(self.symbols() - 1)
+    }
+
+    #[tactic(auto, unfolding(dpx_base::specs::Timing::line_end))]
     pub(crate) fn line_end(self) -> u128
         requires small { IsSmall (timing_in self) }
         requires not_too_slow { m (timing_in self) ≤ self.unit * n (timing_in self) }
         ensures value { result ≡ line_end (timing_in self) }
         ensures small { result ≤ 2 ^ 32 }
     {
-        let symbols = self.symbols();
-        let last = self.unit_of(symbols - 1);
-        last * self.unit + symbols - self.carried(last)
+        let last = self.last_unit();
+        last * self.unit + self.symbols() - self.carried(last)
     }
 
     #[tactic(auto, unfolding(dpx_base::specs::Timing::gap))]
@@ -164,14 +175,16 @@ impl Numbers {
     }
 
     /// All clocks of so many lines.
+    #[tactic(auto, unfolding(dpx_base::specs::Timing::start))]
     pub(crate) fn clocks(self, lines: u128, link: Link) -> u128
         requires small { IsSmall (timing_in self) }
         requires lines { (1 ≤ lines) × (lines ≤ 65535 * 65535) }
         requires fits { IsFit (timing_in self) }
-        ensures value { result ≡ start (timing_in self) (lines - 1) + line_end (timing_in self) + group_length link + block_length link }
+        ensures value { result ≡ clocks_of (timing_in self) link lines }
         ensures small { result < 2 ^ 58 }
     {
-        self.start(lines - 1) + self.line_end() + group_length(link) + block_length(link)
+        let start = self.due(lines - 1) + self.delay();
+        start + self.line_end() + group_length(link) + block_length(link)
     }
 }
 
