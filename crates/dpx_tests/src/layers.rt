@@ -14,6 +14,7 @@ mod link;
 mod phase;
 mod register_file;
 mod sinkmodel;
+mod timing;
 
 /// The channel behaves so at this rate on this lane.
 pub(crate) fn behaves(rt: &impl Abort, channel: &Channel, rate: Rate, lane: u8, cell: Cell)
