@@ -3,7 +3,7 @@ ghost use Rattle.dpx_base.specs.Mode.{bits_of};
 ghost use Rattle.dpx_base.specs.Sets.{black};
 ghost use Rattle.dpx_base.specs.Unpacking.{InRange};
 ghost use Rattle.dpx_pack.specs.Bits.{bits_of_pixel, padding};
-ghost use Rattle.dpx_buffer.specs.Lane.{empty_lane, lane_of, Packs, IsTaken, HasRoomFor, HasRoomToFinish};
+ghost use Rattle.dpx_buffer.specs.Lane.{ring_capacity, empty_lane, lane_of, Packs, IsTaken, HasRoomFor, HasRoomToFinish};
 ghost use Rattle.dpx_buffer.specs.Seen.{depth_in, lanes_in};
 
 use crate::group::Group;
@@ -71,6 +71,21 @@ impl AnyLanes {
             AnyLanes::Ten(lanes) => finish_lines(lanes),
             AnyLanes::Twelve(lanes) => finish_lines(lanes),
             AnyLanes::Sixteen(lanes) => finish_lines(lanes),
+        }
+    }
+
+    /// How many bytes wait on the first lane.
+    pub(crate) fn waiting(&self) -> usize
+        requires { 0 < length (lanes_in self.now) }
+        ensures length { result ≡ length (lane_of (lanes_in self.now) 0).waiting }
+        ensures few { result ≤ ring_capacity }
+    {
+        match self {
+            AnyLanes::Six(lanes) => lanes[0].len(),
+            AnyLanes::Eight(lanes) => lanes[0].len(),
+            AnyLanes::Ten(lanes) => lanes[0].len(),
+            AnyLanes::Twelve(lanes) => lanes[0].len(),
+            AnyLanes::Sixteen(lanes) => lanes[0].len(),
         }
     }
 

@@ -76,6 +76,14 @@ impl<const C: usize> Lane<C> {
         self.waiting.fill_from_slice(bytes.as_slice());
     }
 
+    /// How many bytes wait.
+    pub(crate) fn len(&self) -> usize
+        ensures length { result ≡ length self.now.waiting }
+        ensures few { result ≤ ring_capacity }
+    {
+        self.waiting.len()
+    }
+
     /// Takes the byte that has waited longest.
     pub(crate) fn take(&mut self) -> u8
         requires { 0 < length self.old.waiting }
