@@ -26,12 +26,12 @@ bit_stands line lane k place i three here within =
     let joined : k * (3 * line.depth) + place * line.depth + i ≡ k * (3 * line.depth) + (place * line.depth + i) = omega arith in
     let flat : k * (3 * line.depth) + (place * line.depth + i) ≡ (k * 3 + place) * line.depth + i = omega arith in
     let q : (k * (3 * line.depth) + (place * line.depth + i)) / (3 * line.depth) ≡ k =
-      div-mul-add k (3 * line.depth) (place * line.depth + i) in_pixel in
+    div-mul-add k (3 * line.depth) (place * line.depth + i) in_pixel in
     let m : (k * (3 * line.depth) + (place * line.depth + i)) % (3 * line.depth) ≡ place * line.depth + i =
-      mod-mul-add k (3 * line.depth) (place * line.depth + i) in_pixel in
+    mod-mul-add k (3 * line.depth) (place * line.depth + i) in_pixel in
     let d : (place * line.depth + i) / line.depth ≡ place = div-mul-add place line.depth i here in
     let l : (k * (3 * line.depth) + (place * line.depth + i)) % line.depth ≡ i =
-      ap (λ z. z % line.depth) flat ∙ mod-mul-add (k * 3 + place) line.depth i here in
+    ap (λ z. z % line.depth) flat ∙ mod-mul-add (k * 3 + place) line.depth i here in
     let t : nat_lt (lane + line.lanes * k) line.width ≡ true = lt-ltb (lane + line.lanes * k) line.width within in
     rw (joined, q, m, d, l, t) refl
 
@@ -57,10 +57,10 @@ component_back line byte lane k place carries is three lane_there within =
     let small : v < 2 ^ c = component_fits c (line.pixel (lane + line.lanes * k)) place (is.in_range (lane + line.lanes * k) within) in
     ap number_of
     (span-same (carried_bit (byte lane)) (λ i. bit_at v (c - 1 - i)) from 0 c (λ i h.
-      let pixel : (from + i) / (3 * c) ≡ k = pixel_of_bit c k place i three h in
-      let inside : lane + line.lanes * ((from + i) / (3 * c)) < line.width = rw pixel within in
-      let at : 0 + i ≡ i = omega arith in
-      rw at (carries lane (from + i) lane_there inside ∙ bit_stands line lane k place i three h within))
+    let pixel : (from + i) / (3 * c) ≡ k = pixel_of_bit c k place i three h in
+    let inside : lane + line.lanes * ((from + i) / (3 * c)) < line.width = rw pixel within in
+    let at : 0 + i ≡ i = omega arith in
+    rw at (carries lane (from + i) lane_there inside ∙ bit_stands line lane k place i three h within))
     ∙ sym (bits_are c v))
     ∙ number_back c v small
 
@@ -74,12 +74,12 @@ pub pixels_back : (line : Line) (byte : ℕ → ℕ → ℕ) → IsLine line →
 unfolding unpacked span
 pixels_back line byte is carries =
     span-same (λ x. carried_pixel line.depth (byte (x % line.lanes)) (x / line.lanes)) line.pixel 0 0 line.width (λ x h.
-      let lane : ℕ = (0 + x) % line.lanes in
-      let k : ℕ = (0 + x) / line.lanes in
-      let there : lane < line.lanes = mod-lt (0 + x) is.lanes in
-      let at : lane + line.lanes * k ≡ 0 + x = omega (arith, div-add-mod' (0 + x) line.lanes) in
-      let within : lane + line.lanes * k < line.width = omega (arith, at, h) in
-      all_components line.depth k (byte lane) (line.pixel (lane + line.lanes * k)) (λ place three. component_back line byte lane k place carries is three there within) ∙ ap line.pixel at)
+    let lane : ℕ = (0 + x) % line.lanes in
+    let k : ℕ = (0 + x) / line.lanes in
+    let there : lane < line.lanes = mod-lt (0 + x) is.lanes in
+    let at : lane + line.lanes * k ≡ 0 + x = omega (arith, div-add-mod' (0 + x) line.lanes) in
+    let within : lane + line.lanes * k < line.width = omega (arith, at, h) in
+    all_components line.depth k (byte lane) (line.pixel (lane + line.lanes * k)) (λ place three. component_back line byte lane k place carries is three there within) ∙ ap line.pixel at)
 
 pub ceil_covers : (a d : ℕ) → 0 < d → a ≤ d * ceil_div a d
 unfolding ceil_div
@@ -90,18 +90,19 @@ pub bit_within : (line : Line) (lane i : ℕ) → IsLine line → lane + line.la
     → i / 8 < lane_length line
 bit_within line lane i is within =
     let g : i / (3 * line.depth) < ceil_div line.width line.lanes =
-      below_from_product line.lanes (i / (3 * line.depth)) (ceil_div line.width line.lanes)
-        (omega (arith, within, ceil_covers line.width line.lanes is.lanes)) in
+    below_from_product line.lanes (i / (3 * line.depth)) (ceil_div line.width line.lanes)
+    (omega (arith, within, ceil_covers line.width line.lanes is.lanes)) in
     let bits : suc (i / (3 * line.depth)) * (3 * line.depth) ≤ ceil_div line.width line.lanes * (3 * line.depth) =
-      mul-le-mul_right (3 * line.depth) g in
+    mul-le-mul_right (3 * line.depth) g in
     let place : i < suc (i / (3 * line.depth)) * (3 * line.depth) =
-      omega (arith, div-add-mod' i (3 * line.depth), mod-lt i (positive line.depth is.depth)) in
+    omega (arith, div-add-mod' i (3 * line.depth), mod-lt i (positive line.depth is.depth)) in
     let bytes : ceil_div line.width line.lanes * (3 * line.depth) ≤ 8 * lane_length line =
-      ceil_covers (ceil_div line.width line.lanes * (3 * line.depth)) 8 (omega arith) in
+    ceil_covers (ceil_div line.width line.lanes * (3 * line.depth)) 8 (omega arith) in
     omega (arith, bits, place, bytes)
   where
     positive : (d : ℕ) → 1 ≤ d → 0 < 3 * d
     positive d h = omega (arith, h)
+
     below_from_product : (m a b : ℕ) → m * a < m * b → a < b
     below_from_product m a b h = grind (arith, mul-le-mul_right)
 
@@ -125,6 +126,7 @@ packed_byte line lane j there within =
   where
     zero_more : 0 + lane ≡ lane
     zero_more = omega arith
+
     zero_byte : 0 + j ≡ j
     zero_byte = omega arith
 

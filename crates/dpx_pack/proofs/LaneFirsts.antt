@@ -62,9 +62,9 @@ unfolding line_bit
 bit_by_pixel pixels lane count c i = elim (cases_lt (lane + count * (i / (3 * c))) (length pixels)) [
   | inl inside ↦ rw (lt-ltb (lane + count * (i / (3 * c))) (length pixels) inside) refl
   | inr past ↦
-    let test : nat_lt (lane + count * (i / (3 * c))) (length pixels) ≡ false = grind (arith, nat_tests) in
-    let zero_bit = no_bit_of_none (c - 1 - i % c) in
-    rw (test, past_end pixels (lane + count * (i / (3 * c))) past, black_component (i % (3 * c) / c)) (sym zero_bit)
+      let test : nat_lt (lane + count * (i / (3 * c))) (length pixels) ≡ false = grind (arith, nat_tests) in
+      let zero_bit = no_bit_of_none (c - 1 - i % c) in
+      rw (test, past_end pixels (lane + count * (i / (3 * c))) past, black_component (i % (3 * c) / c)) (sym zero_bit)
 ]
 
 -- the bits of a lane's first pixels are those of the line
@@ -73,11 +73,11 @@ bits_agree : (pixels : List Pixel) (lane count c k i : ℕ) → 1 ≤ c → i < 
 bits_agree pixels lane count c k i pos h =
     let here : i / (3 * c) < k = (div-lt_iff_lt-mul {k = 3 * c} {x = i} {y = k} (omega (arith, pos))).1 h in
     let size : length (lane_firsts pixels lane count k) ≡ k =
-      length-span (λ group. get_or pixels (lane + count * group) black) 0 k in
+    length-span (λ group. get_or pixels (lane + count * group) black) 0 k in
     let at : 0 + i / (3 * c) ≡ i / (3 * c) = omega arith in
     let pixel : get_or (lane_firsts pixels lane count k) (i / (3 * c)) black ≡ get_or pixels (lane + count * (i / (3 * c))) black =
-      get_or-span (λ group. get_or pixels (lane + count * group) black) 0 k (i / (3 * c)) black here
-      ∙ ap (λ group. get_or pixels (lane + count * group) black) at in
+    get_or-span (λ group. get_or pixels (lane + count * group) black) 0 k (i / (3 * c)) black here
+    ∙ ap (λ group. get_or pixels (lane + count * group) black) at in
     bit_there c (lane_firsts pixels lane count k) i (omega (arith, here, size))
     ∙ (ap (λ p. bit_at (component p (i % (3 * c) / c)) (c - 1 - i % c)) pixel
     ∙ sym (bit_by_pixel pixels lane count c i))
@@ -87,14 +87,14 @@ zeros_agree : (pixels : List Pixel) (lane count c k i : ℕ) → 1 ≤ c → len
     → lane_bit c (lane_firsts pixels lane count k) i ≡ line_bit (line_of pixels count c) lane i
 zeros_agree pixels lane count c k i pos all h =
     let size : length (lane_firsts pixels lane count k) ≡ k =
-      length-span (λ group. get_or pixels (lane + count * group) black) 0 k in
+    length-span (λ group. get_or pixels (lane + count * group) black) 0 k in
     let past : k ≤ i / (3 * c) = le-div k i (3 * c) (omega (arith, pos)) h in
     let more : k * count ≤ i / (3 * c) * count = mul-le-mul_right count past in
     let out : length pixels ≤ lane + count * (i / (3 * c)) = omega (arith, all, more) in
     let zero_bit = no_bit_of_none (c - 1 - i % c) in
     no_bit c (lane_firsts pixels lane count k) i pos (rw size h)
     ∙ sym (bit_by_pixel pixels lane count c i
-      ∙ rw (past_end pixels (lane + count * (i / (3 * c))) out, black_component (i % (3 * c) / c)) zero_bit)
+    ∙ rw (past_end pixels (lane + count * (i / (3 * c))) out, black_component (i % (3 * c) / c)) zero_bit)
 
 byte_from_bits : (pixels : List Pixel) (lane count c k j : ℕ)
     → ((i : ℕ) → i < 8 → lane_bit c (lane_firsts pixels lane count k) (8 * j + i) ≡ line_bit (line_of pixels count c) lane (8 * j + i))
@@ -113,19 +113,19 @@ next_bytes pixels lane count c k bytes whole pos before now =
     let w : ℕ = whole_byte_count c k in
     let d : ℕ = whole_byte_count c (k + 1) - whole_byte_count c k in
     let size : length (lane_firsts pixels lane count k) ≡ k =
-      length-span (λ group. get_or pixels (lane + count * group) black) 0 k in
+    length-span (λ group. get_or pixels (lane + count * group) black) 0 k in
     let grows : whole_byte_count c k ≤ whole_byte_count c (k + 1) = omega arith in
     let next : whole ≡ span (line_byte (lane_line c (lane_firsts pixels lane count (k + 1))) 0) w d =
-      now
-      ∙ (ap (λ xs. bytes_from c (lane_firsts pixels lane count k) xs (whole_byte_count c (length (lane_firsts pixels lane count k) + 1)))
-        (sym (one_more pixels lane count k))
-      ∙ ap (λ n. span (line_byte (lane_line c (lane_firsts pixels lane count (k + 1))) 0) (whole_byte_count c n)
-        (whole_byte_count c (n + 1) - whole_byte_count c n)) size) in
+    now
+    ∙ (ap (λ xs. bytes_from c (lane_firsts pixels lane count k) xs (whole_byte_count c (length (lane_firsts pixels lane count k) + 1)))
+    (sym (one_more pixels lane count k))
+    ∙ ap (λ n. span (line_byte (lane_line c (lane_firsts pixels lane count (k + 1))) 0) (whole_byte_count c n)
+    (whole_byte_count c (n + 1) - whole_byte_count c n)) size) in
     let same : span (line_byte (lane_line c (lane_firsts pixels lane count (k + 1))) 0) w d ≡ span f (0 + w) d =
-      span-same (line_byte (lane_line c (lane_firsts pixels lane count (k + 1))) 0) f w (0 + w) d (λ j h.
-        let at : 0 + w + j ≡ w + j = omega arith in
-        rw at (byte_from_bits pixels lane count c (k + 1) (w + j) (λ i small.
-          bits_agree pixels lane count c (k + 1) (8 * (w + j) + i) pos (omega (arith, h, small))))) in
+    span-same (line_byte (lane_line c (lane_firsts pixels lane count (k + 1))) 0) f w (0 + w) d (λ j h.
+    let at : 0 + w + j ≡ w + j = omega arith in
+    rw at (byte_from_bits pixels lane count c (k + 1) (w + j) (λ i small.
+    bits_agree pixels lane count c (k + 1) (8 * (w + j) + i) pos (omega (arith, h, small))))) in
     let total : whole_byte_count c (k + 1) ≡ w + d = omega (arith, grows) in
     rw (before, next, same) (sym (ap (λ n. span f 0 n) total ∙ span-append f 0 w d))
 
@@ -151,18 +151,18 @@ all_bytes pixels lane count c bytes last pos some before now =
     let w : ℕ = whole_byte_count c k in
     let s : ℕ = symbols_of (length pixels) count (3 * c) in
     let size : length (lane_firsts pixels lane count (ceil_div (length pixels) count)) ≡ ceil_div (length pixels) count =
-      length-span (λ group. get_or pixels (lane + count * group) black) 0 (ceil_div (length pixels) count) in
+    length-span (λ group. get_or pixels (lane + count * group) black) 0 (ceil_div (length pixels) count) in
     let covers : length pixels ≤ count * ceil_div (length pixels) count = ceil_covers (length pixels) count some in
     let rest : last ≡ span (line_byte (lane_line c (lane_firsts pixels lane count k)) 0) w (s - w) =
-      now
-      ∙ (ap (λ n. span (line_byte (lane_line c (lane_firsts pixels lane count k)) 0) (whole_byte_count c n)
-        (symbols_of n 1 (3 * c) - whole_byte_count c n)) size
-      ∙ ap (λ n. span (line_byte (lane_line c (lane_firsts pixels lane count k)) 0) w (n - w))
-        (one_lane_symbols (length pixels) count (3 * c))) in
+    now
+    ∙ (ap (λ n. span (line_byte (lane_line c (lane_firsts pixels lane count k)) 0) (whole_byte_count c n)
+    (symbols_of n 1 (3 * c) - whole_byte_count c n)) size
+    ∙ ap (λ n. span (line_byte (lane_line c (lane_firsts pixels lane count k)) 0) w (n - w))
+    (one_lane_symbols (length pixels) count (3 * c))) in
     let same : span (line_byte (lane_line c (lane_firsts pixels lane count k)) 0) w (s - w) ≡ span f (0 + w) (s - w) =
-      span-same (line_byte (lane_line c (lane_firsts pixels lane count k)) 0) f w (0 + w) (s - w) (λ j h.
-        let at : 0 + w + j ≡ w + j = omega arith in
-        rw at (byte_from_bits pixels lane count c k (w + j) (λ i small. either covers (8 * (w + j) + i)))) in
+    span-same (line_byte (lane_line c (lane_firsts pixels lane count k)) 0) f w (0 + w) (s - w) (λ j h.
+    let at : 0 + w + j ≡ w + j = omega arith in
+    rw at (byte_from_bits pixels lane count c k (w + j) (λ i small. either covers (8 * (w + j) + i)))) in
     let few : w ≤ s = whole_below (ceil_div (length pixels) count * (3 * c)) in
     let total : s ≡ w + (s - w) = omega (arith, few) in
     rw (before, rest, same) (sym (ap (λ n. span f 0 n) total ∙ span-append f 0 w (s - w)))
@@ -180,4 +180,4 @@ unfolding ceil_div
 div_ceil_is a b some =
     let bounds = div_ceil_times a b some in
     sym (quotient_is (a + b - 1) b (div_ceil a b) (a + b - 1 - b * div_ceil a b)
-      (omega (arith, bounds.0, bounds.1, some)) (omega (arith, bounds.0, some)))
+    (omega (arith, bounds.0, bounds.1, some)) (omega (arith, bounds.0, some)))

@@ -5,5 +5,4 @@ ghost use Rattle.dpx_pack.specs.Lines.{PackedIsCarried, PixelsComeBack};
 pub fn pixels_come_back()
     ensures come_back { PixelsComeBack }
     ensures packed { PackedIsCarried }
-{
-}
+{}

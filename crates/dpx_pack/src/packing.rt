@@ -1,6 +1,6 @@
 ghost use Rattle.std.specs.Prelude.{◌≡◌, ◌<◌, ◌≤◌, All, IfOk, length, slice_index_or};
-ghost use Rattle.dpx_base.specs.Lanes.{count_of};
-ghost use Rattle.dpx_base.specs.Mode.{bits_of};
+ghost use Rattle.dpx_base.specs.Lanes.{lanes_count};
+ghost use Rattle.dpx_base.specs.Mode.{depth_bits};
 ghost use Rattle.dpx_base.specs.Unpacking.{InRange};
 ghost use Rattle.dpx_base.specs.Sets.{black};
 ghost use Rattle.dpx_pack.specs.Lanes.{line_of};
@@ -12,10 +12,15 @@ use dpx_base::{Depth, Lanes, Memory, Pixel};
 use std::alloc::Global;
 
 /// Packs the pixels of a line.
-pub fn pack_line(alloc: Global, pixels: &[Pixel], lanes: Lanes, depth: Depth) -> Result<LineBytes, Memory>
+pub fn pack_line(
+    alloc: Global,
+    pixels: &[Pixel],
+    lanes: Lanes,
+    depth: Depth,
+) -> Result<LineBytes, Memory>
     requires width { (1 ≤ length pixels.now) × (length pixels.now ≤ 8192) }
-    requires range { All (InRange (bits_of depth)) pixels.now }
-    ensures { IfOk result (λ line. line ≡ packed_lanes (line_of pixels.now (count_of lanes) (bits_of depth))) }
+    requires range { All (InRange (depth_bits depth)) pixels.now }
+    ensures { IfOk result (λ line. line ≡ packed_lanes (line_of pixels.now (lanes_count lanes) (depth_bits depth))) }
 {
     match depth {
         Depth::Six => pack_lanes::<6>(alloc, pixels, lanes),
@@ -26,11 +31,15 @@ pub fn pack_line(alloc: Global, pixels: &[Pixel], lanes: Lanes, depth: Depth) ->
     }
 }
 
-fn pack_lanes<const C: usize>(alloc: Global, pixels: &[Pixel], lanes: Lanes) -> Result<LineBytes, Memory>
+fn pack_lanes<const C: usize>(
+    alloc: Global,
+    pixels: &[Pixel],
+    lanes: Lanes,
+) -> Result<LineBytes, Memory>
     requires depth { (6 ≤ C) × (C ≤ 16) }
     requires width { (1 ≤ length pixels.now) × (length pixels.now ≤ 8192) }
     requires range { All (InRange C) pixels.now }
-    ensures { IfOk result (λ line. line ≡ packed_lanes (line_of pixels.now (count_of lanes) C)) }
+    ensures { IfOk result (λ line. line ≡ packed_lanes (line_of pixels.now (lanes_count lanes) C)) }
 {
     let count = usize::from(lanes.count());
     let mut packed = Vec::new(alloc);
@@ -42,7 +51,12 @@ fn pack_lanes<const C: usize>(alloc: Global, pixels: &[Pixel], lanes: Lanes) -> 
 }
 
 // The bytes of a lane: each `count`th pixel from this one on.
-fn pack_lane<const C: usize>(alloc: Global, pixels: &[Pixel], lane: usize, count: usize) -> Result<Vec<u8>, Memory>
+fn pack_lane<const C: usize>(
+    alloc: Global,
+    pixels: &[Pixel],
+    lane: usize,
+    count: usize,
+) -> Result<Vec<u8>, Memory>
     requires depth { (6 ≤ C) × (C ≤ 16) }
     requires width { length pixels.now ≤ 8192 }
     requires range { All (InRange C) pixels.now }

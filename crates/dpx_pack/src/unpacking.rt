@@ -1,5 +1,5 @@
 ghost use Rattle.std.specs.Prelude.{◌≡◌, ◌<◌, ◌≤◌, ◌*◌, ◌/◌, All, IfOk, length, map};
-ghost use Rattle.dpx_base.specs.Mode.{bits_of};
+ghost use Rattle.dpx_base.specs.Mode.{depth_bits};
 ghost use Rattle.dpx_base.specs.Timing.{symbols_of};
 ghost use Rattle.dpx_base.specs.Unpacking.{InRange, unpacked};
 ghost use Rattle.dpx_pack.specs.Lines.{HaveTurns, byte_of, in_turn, lane_pixels, lane_with, pixel_in_turn};
@@ -10,12 +10,17 @@ use dpx_base::{Depth, Memory, Pixel};
 use std::alloc::Global;
 
 /// The pixels of a line of this width. The padding is not looked at.
-pub fn unpack_line(alloc: Global, line: &LineBytes, width: u16, depth: Depth) -> Result<Vec<Pixel>, Memory>
+pub fn unpack_line(
+    alloc: Global,
+    line: &LineBytes,
+    width: u16,
+    depth: Depth,
+) -> Result<Vec<Pixel>, Memory>
     requires width { (1 ≤ width) × (width ≤ 8192) }
-    requires bytes { All (λ bytes. length bytes ≡ symbols_of width (length line.now) (3 * bits_of depth)) line.now }
+    requires bytes { All (λ bytes. length bytes ≡ symbols_of width (length line.now) (3 * depth_bits depth)) line.now }
     ensures pixels { IfOk result (λ pixels. pixels.items
-        ≡ unpacked (bits_of depth) (length line.now) width (byte_of line.now)) }
-    ensures range { IfOk result (λ pixels. All (InRange (bits_of depth)) pixels.items) }
+        ≡ unpacked (depth_bits depth) (length line.now) width (byte_of line.now)) }
+    ensures range { IfOk result (λ pixels. All (InRange (depth_bits depth)) pixels.items) }
 {
     match depth {
         Depth::Six => unpack_lanes::<6>(alloc, line, width),
@@ -26,7 +31,11 @@ pub fn unpack_line(alloc: Global, line: &LineBytes, width: u16, depth: Depth) ->
     }
 }
 
-fn unpack_lanes<const C: usize>(alloc: Global, line: &LineBytes, width: u16) -> Result<Vec<Pixel>, Memory>
+fn unpack_lanes<const C: usize>(
+    alloc: Global,
+    line: &LineBytes,
+    width: u16,
+) -> Result<Vec<Pixel>, Memory>
     requires depth { (6 ≤ C) × (C ≤ 16) }
     requires width { (1 ≤ width) × (width ≤ 8192) }
     requires bytes { All (λ bytes. length bytes ≡ symbols_of width (length line.now) (3 * C)) line.now }

@@ -29,7 +29,7 @@ loop-group-preserved g c =
     record {
       taken = rw (one_more pixels c.args.lane c.args.count k, ← next) (c.push-whole.ensures.stands firsts c.loop-group.invariant.taken);
       bytes = appended ∙ (ap (λ more. c.loop-group.bytes.items ++ more) c.as_slice.ensures.value
-        ∙ next_bytes pixels c.args.lane c.args.count C k c.loop-group.bytes.items c.push-whole.result.items (omega (arith, c.requires.depth.0))
+          ∙ next_bytes pixels c.args.lane c.args.count C k c.loop-group.bytes.items c.push-whole.result.items (omega (arith, c.requires.depth.0))
           c.loop-group.invariant.bytes (rw (← next) (c.push-whole.ensures.places firsts c.loop-group.invariant.taken)));
     }
 
@@ -43,7 +43,7 @@ returns g c =
     let end : k ≡ ceil_div (length pixels) c.args.count = omega (arith, c.loop-group-test.false, c.loop-group.auto.group-end, groups) in
     let appended : c.append-2.new.bytes.items ≡ c.loop-group.bytes.items ++ c.as_slice-2.result.now = c.in_ok-append-2.ensures in
     appended ∙ (ap (λ more. c.loop-group.bytes.items ++ more) c.as_slice-2.ensures.value
-      ∙ all_bytes pixels c.args.lane c.args.count C c.loop-group.bytes.items c.finish_line-last.result.items
-        (omega (arith, c.requires.depth.0)) some
-        (rw (← end) c.loop-group.invariant.bytes)
-        (rw (← end) (c.finish_line-last.ensures.places (lane_firsts pixels c.args.lane c.args.count k) c.loop-group.invariant.taken)))
+    ∙ all_bytes pixels c.args.lane c.args.count C c.loop-group.bytes.items c.finish_line-last.result.items
+    (omega (arith, c.requires.depth.0)) some
+    (rw (← end) c.loop-group.invariant.bytes)
+    (rw (← end) (c.finish_line-last.ensures.places (lane_firsts pixels c.args.lane c.args.count k) c.loop-group.invariant.taken)))

@@ -25,11 +25,11 @@ loop-byte-preserved g c =
       taken = rw (← first_and_next bytes k _ within refl) (c.push.ensures.stands (take k bytes) c.loop-byte.invariant.taken);
       pixels = elim c.match-push.branch [
         | in-Some+in_ok-push w ↦
-          let appended : w.push-in-Some.new.items.items ≡ c.loop-byte.pixels.items ++ w.in-Some.pixel ∷ [] = w.in_ok-push.ensures in
-          rw (w.pixels-is) (appended ∙ (ap (λ l. l ++ w.in-Some.pixel ∷ []) c.loop-byte.invariant.pixels
+            let appended : w.push-in-Some.new.items.items ≡ c.loop-byte.pixels.items ++ w.in-Some.pixel ∷ [] = w.in_ok-push.ensures in
+            rw (w.pixels-is) (appended ∙ (ap (λ l. l ++ w.in-Some.pixel ∷ []) c.loop-byte.invariant.pixels
             ∙ sym (one_pixel_more g.row.C bytes k _ w.in-Some.pixel some within refl (sym completed ∙ w.in-Some.is))))
         | in_default w ↦
-          rw (w.pixels-is) (c.loop-byte.invariant.pixels
+            rw (w.pixels-is) (c.loop-byte.invariant.pixels
             ∙ sym (no_pixel_more g.row.C bytes k _ some within (sym completed ∙ w.in_default.is)))
       ];
     }
@@ -38,5 +38,5 @@ pub returns : goal.returns
 unfolding lane_pixels
 returns g c =
     let end : c.loop-byte.byte-index ≡ length c.args.bytes.now =
-      omega (arith, c.loop-byte-test.false, c.loop-byte.auto.byte-index-end) in
+    omega (arith, c.loop-byte-test.false, c.loop-byte.auto.byte-index-end) in
     c.loop-byte.invariant.pixels ∙ ap (pixels_of_first g.row.C c.args.bytes.now) end

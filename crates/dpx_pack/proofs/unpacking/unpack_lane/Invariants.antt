@@ -9,5 +9,5 @@ invariant-loop-byte g l =
     record {
       taken : LeftOfBytes g.row.C (take l.byte-index l.bytes) l.unpacker;
       pixels : l.pixels.items
-        ≡ span (carried_pixel g.row.C (λ j. get_or l.bytes j 0)) 0 (whole_pixel_count g.row.C l.byte-index);
+          ≡ span (carried_pixel g.row.C (λ j. get_or l.bytes j 0)) 0 (whole_pixel_count g.row.C l.byte-index);
     }
