@@ -8,7 +8,8 @@ use Rattle.dpx_base.specs.declared.rate.Rate.{Rate}
 use Rattle.dpx_base.specs.declared.rate.Rate.TheVariants.{Rbr, Hbr, Hbr2, Hbr3}
 use Rattle.dpx_base.specs.Attributes.{with_polarity, misc0_of, attributes_bytes}
 use Rattle.dpx_base.specs.Rate.{rate_clock_khz}
-use Rattle.dpx_msa.specs.Reading.{colour, depth_code, depth_with_code, sync_width, sync_polarity, first_refusal, attributes_in, ReadsBack}
+use Rattle.dpx_msa.specs.Reading.{colour, depth_code, depth_with_code, sync_width, sync_polarity, first_refusal}
+use Rattle.dpx_msa.specs.Reading.{attributes_in, ReadsBack}
 
 two_back : (n : ℕ) → n / 256 * 256 + (n % 256 * 1 + 0) ≡ n
 two_back n = omega arith

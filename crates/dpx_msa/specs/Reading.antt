@@ -47,7 +47,11 @@ depth_code misc0 = misc0 / 32
 
 abbrev pub depth_with_code : (code : ℕ) → Depth
 depth_with_code code =
-    if code == 0 then Six else if code == 1 then Eight else if code == 2 then Ten else if code == 3 then Twelve else Sixteen
+    if code == 0 then Six
+    else if code == 1 then Eight
+    else if code == 2 then Ten
+    else if code == 3 then Twelve
+    else Sixteen
 
 -- a sync width is in bits 14:0, its polarity in bit 15
 abbrev pub sync_width : ℕ → ℕ

@@ -1,6 +1,7 @@
 ghost use Rattle.std.specs.Prelude.{◌≡◌, ◌≤◌, IfNone, IfOk};
 ghost use Rattle.dpx_base.specs.RawMode.{is_within};
-ghost use Rattle.dpx_msa.specs.Reading.{HasSizes, attributes_in, depth_with_code, first_refusal, read_attributes, three_at, two_at};
+ghost use Rattle.dpx_msa.specs.Reading.{HasSizes, attributes_in, first_refusal, read_attributes};
+ghost use Rattle.dpx_msa.specs.Reading.{depth_with_code, three_at, two_at};
 
 use crate::{Attributes, MsaBad};
 use byteorder::{BigEndian, ByteOrder};

@@ -1,5 +1,6 @@
 -- The pixels of a line come back out of the bytes that carry it.
-use Rattle.std.proofs.Common.{ℕ, zero, suc, ◌+◌, ◌-◌, ◌*◌, ◌/◌, ◌%◌, ◌^◌, ◌<◌, ◌≤◌, ◌≡◌, ◌∙◌, Bool, true, false, [], get_or, refl, sym, ap, arith}
+use Rattle.std.proofs.Common.{ℕ, zero, suc, ◌+◌, ◌-◌, ◌*◌, ◌/◌, ◌%◌, ◌^◌, ◌<◌, ◌≤◌, ◌≡◌, ◌∙◌, Bool, true, false, []}
+use Rattle.std.proofs.Common.{All, length, get_or, refl, sym, ap, arith}
 use Rattle.std.specs.Prelude.{nat_lt, if◌then◌else◌}
 use Rattle.std.specs.Int.{bit_at}
 use Rattle.std.proofs.Math.Nat.{mul-le-mul_right, mod-lt}
@@ -7,13 +8,13 @@ use Rattle.std.proofs.lemmas.Nat.{div-mul-add, mod-mul-add, div-add-mod'}
 use Rattle.std.proofs.lemmas.Bool.{lt-ltb}
 use Rattle.dpx_base.specs.declared.pixel.Pixel.{Pixel}
 use Rattle.dpx_base.specs.Packing.{Line, component, line_bit, line_byte, number_of}
-use Rattle.dpx_base.specs.Timing.{ceil_div}
+use Rattle.dpx_base.specs.Timing.{ceil_div, symbols_of}
 use Rattle.dpx_base.specs.Unpacking.{InRange, carried_bit, carried_component, carried_pixel, unpacked}
 use Rattle.dpx_pack.specs.Lines.{lane_length, lane_bytes, packed_lanes, byte_of, Carries, IsLine, pixels_of}
 use Rattle.dpx_pack.specs.Positions.{span}
 use Rattle.dpx_pack.proofs.NumbersOfBits.{bit_small, bit_of_number, number_small}
 use Rattle.dpx_pack.proofs.Places.{bits_are, number_back}
-use Rattle.dpx_pack.proofs.Spans.{span-same, get_or-span}
+use Rattle.dpx_pack.proofs.Spans.{span-same, length-span, get_or-span}
 
 -- where bit i of component `place` of a lane's pixel k stands
 bit_stands : (line : Line) (lane k place i : ℕ) → place < 3 → i < line.depth → lane + line.lanes * k < line.width
@@ -23,7 +24,8 @@ unfolding line_bit
 bit_stands line lane k place i three here within =
     let room : suc place * line.depth ≤ 3 * line.depth = mul-le-mul_right line.depth three in
     let in_pixel : place * line.depth + i < 3 * line.depth = omega (arith, room, here) in
-    let joined : k * (3 * line.depth) + place * line.depth + i ≡ k * (3 * line.depth) + (place * line.depth + i) = omega arith in
+    let joined : k * (3 * line.depth) + place * line.depth + i ≡ k * (3 * line.depth) + (place * line.depth + i) =
+      omega arith in
     let flat : k * (3 * line.depth) + (place * line.depth + i) ≡ (k * 3 + place) * line.depth + i = omega arith in
     let q : (k * (3 * line.depth) + (place * line.depth + i)) / (3 * line.depth) ≡ k =
     div-mul-add k (3 * line.depth) (place * line.depth + i) in_pixel in
@@ -54,7 +56,8 @@ component_back line byte lane k place carries is three lane_there within =
     let c : ℕ = line.depth in
     let v : ℕ = component (line.pixel (lane + line.lanes * k)) place in
     let from : ℕ = k * (3 * line.depth) + place * line.depth in
-    let small : v < 2 ^ c = component_fits c (line.pixel (lane + line.lanes * k)) place (is.in_range (lane + line.lanes * k) within) in
+    let small : v < 2 ^ c = component_fits c (line.pixel (lane + line.lanes * k)) place
+      (is.in_range (lane + line.lanes * k) within) in
     ap number_of
     (span-same (carried_bit (byte lane)) (λ i. bit_at v (c - 1 - i)) from 0 c (λ i h.
     let pixel : (from + i) / (3 * c) ≡ k = pixel_of_bit c k place i three h in
@@ -73,13 +76,15 @@ pub pixels_back : (line : Line) (byte : ℕ → ℕ → ℕ) → IsLine line →
     → unpacked line.depth line.lanes line.width byte ≡ pixels_of line
 unfolding unpacked span
 pixels_back line byte is carries =
-    span-same (λ x. carried_pixel line.depth (byte (x % line.lanes)) (x / line.lanes)) line.pixel 0 0 line.width (λ x h.
+    span-same (λ x. carried_pixel line.depth (byte (x % line.lanes)) (x / line.lanes)) line.pixel 0 0 line.width
+      (λ x h.
     let lane : ℕ = (0 + x) % line.lanes in
     let k : ℕ = (0 + x) / line.lanes in
     let there : lane < line.lanes = mod-lt (0 + x) is.lanes in
     let at : lane + line.lanes * k ≡ 0 + x = omega (arith, div-add-mod' (0 + x) line.lanes) in
     let within : lane + line.lanes * k < line.width = omega (arith, at, h) in
-    all_components line.depth k (byte lane) (line.pixel (lane + line.lanes * k)) (λ place three. component_back line byte lane k place carries is three there within) ∙ ap line.pixel at)
+    all_components line.depth k (byte lane) (line.pixel (lane + line.lanes * k))
+      (λ place three. component_back line byte lane k place carries is three there within) ∙ ap line.pixel at)
 
 pub ceil_covers : (a d : ℕ) → 0 < d → a ≤ d * ceil_div a d
 unfolding ceil_div
@@ -110,7 +115,8 @@ line_bit_small : (line : Line) (lane i : ℕ) → line_bit line lane i < 2
 unfolding line_bit
 line_bit_small line lane i =
     small (nat_lt (lane + line.lanes * (i / (3 * line.depth))) line.width)
-    (component (line.pixel (lane + line.lanes * (i / (3 * line.depth)))) (i % (3 * line.depth) / line.depth)) (line.depth - 1 - i % line.depth)
+    (component (line.pixel (lane + line.lanes * (i / (3 * line.depth)))) (i % (3 * line.depth) / line.depth))
+      (line.depth - 1 - i % line.depth)
   where
     small : (b : Bool) (v k : ℕ) → (if b then bit_at v k else 0) < 2
     small true v k = bit_small v k
@@ -148,3 +154,13 @@ unpacked_fits c byte k =
       g = number_small (carried_bit byte) (k * (3 * c) + 1 * c) c (λ i. bit_small (byte (i / 8)) (7 - i % 8));
       b = number_small (carried_bit byte) (k * (3 * c) + 2 * c) c (λ i. bit_small (byte (i / 8)) (7 - i % 8));
     }
+
+-- every lane has so many bytes
+pub packed_lengths : (line : Line)
+    → All (λ bytes. length bytes ≡ symbols_of line.width (length (packed_lanes line)) (3 * line.depth)) (packed_lanes line)
+unfolding packed_lanes lane_bytes
+packed_lengths line k d h =
+    let count : length (span (lane_bytes line) 0 line.lanes) ≡ line.lanes = length-span (lane_bytes line) 0 line.lanes in
+    ap length (get_or-span (lane_bytes line) 0 line.lanes k d (omega (arith, h, count)))
+    ∙ (length-span (line_byte line (0 + k)) 0 (lane_length line)
+    ∙ ap (λ n. symbols_of line.width n (3 * line.depth)) (sym count))

@@ -1,5 +1,6 @@
 -- The pixels that a lane takes of a line: each so manyth, and black behind the line's end.
-use Rattle.std.proofs.Common.{ℕ, zero, suc, ◌+◌, ◌-◌, ◌*◌, ◌/◌, ◌%◌, ◌<◌, ◌≤◌, ◌≡◌, ◌∙◌, inl, inr, false, List, [], ◌∷◌, ◌++◌, length, get_or, refl, sym, ap, arith}
+use Rattle.std.proofs.Common.{ℕ, zero, suc, ◌+◌, ◌-◌, ◌*◌, ◌/◌, ◌%◌, ◌<◌, ◌≤◌, ◌≡◌, ◌∙◌, inl, inr, false, List, []}
+use Rattle.std.proofs.Common.{◌∷◌, ◌++◌, length, get_or, refl, sym, ap, arith}
 use Rattle.std.specs.Prelude.{nat_lt, All}
 use Rattle.std.specs.Int.{bit_at}
 use Rattle.std.proofs.Math.Nat.{div-lt_iff_lt-mul, mul-le-mul_right}
@@ -40,7 +41,8 @@ abbrev pub lane_firsts : List Pixel → (lane count k : ℕ) → List Pixel
 lane_firsts pixels lane count k = span (λ group. get_or pixels (lane + count * group) black) 0 k
 
 pub one_more : (pixels : List Pixel) (lane count k : ℕ)
-    → lane_firsts pixels lane count (k + 1) ≡ lane_firsts pixels lane count k ++ get_or pixels (lane + count * k) black ∷ []
+    → lane_firsts pixels lane count (k + 1) ≡ lane_firsts pixels lane count k
+      ++ get_or pixels (lane + count * k) black ∷ []
 one_more pixels lane count k =
     let at : 0 + k ≡ k = omega arith in
     span-more (λ group. get_or pixels (lane + count * group) black) 0 k
@@ -75,7 +77,8 @@ bits_agree pixels lane count c k i pos h =
     let size : length (lane_firsts pixels lane count k) ≡ k =
     length-span (λ group. get_or pixels (lane + count * group) black) 0 k in
     let at : 0 + i / (3 * c) ≡ i / (3 * c) = omega arith in
-    let pixel : get_or (lane_firsts pixels lane count k) (i / (3 * c)) black ≡ get_or pixels (lane + count * (i / (3 * c))) black =
+    let pixel : get_or (lane_firsts pixels lane count k) (i / (3 * c)) black
+      ≡ get_or pixels (lane + count * (i / (3 * c))) black =
     get_or-span (λ group. get_or pixels (lane + count * group) black) 0 k (i / (3 * c)) black here
     ∙ ap (λ group. get_or pixels (lane + count * group) black) at in
     bit_there c (lane_firsts pixels lane count k) i (omega (arith, here, size))
@@ -97,11 +100,13 @@ zeros_agree pixels lane count c k i pos all h =
     ∙ rw (past_end pixels (lane + count * (i / (3 * c))) out, black_component (i % (3 * c) / c)) zero_bit)
 
 byte_from_bits : (pixels : List Pixel) (lane count c k j : ℕ)
-    → ((i : ℕ) → i < 8 → lane_bit c (lane_firsts pixels lane count k) (8 * j + i) ≡ line_bit (line_of pixels count c) lane (8 * j + i))
+    → ((i : ℕ) → i < 8 → lane_bit c (lane_firsts pixels lane count k) (8 * j + i)
+      ≡ line_bit (line_of pixels count c) lane (8 * j + i))
     → line_byte (lane_line c (lane_firsts pixels lane count k)) 0 j ≡ line_byte (line_of pixels count c) lane j
 unfolding line_byte span
 byte_from_bits pixels lane count c k j h =
-    ap number_of (span-same (lane_bit c (lane_firsts pixels lane count k)) (line_bit (line_of pixels count c) lane) (8 * j) (8 * j) 8 h)
+    ap number_of (span-same (lane_bit c (lane_firsts pixels lane count k)) (line_bit (line_of pixels count c) lane)
+      (8 * j) (8 * j) 8 h)
 
 -- the bytes that a lane's next pixel makes whole are the line's next
 pub next_bytes : (pixels : List Pixel) (lane count c k : ℕ) (bytes whole : List ℕ) → 1 ≤ c
@@ -117,7 +122,8 @@ next_bytes pixels lane count c k bytes whole pos before now =
     let grows : whole_byte_count c k ≤ whole_byte_count c (k + 1) = omega arith in
     let next : whole ≡ span (line_byte (lane_line c (lane_firsts pixels lane count (k + 1))) 0) w d =
     now
-    ∙ (ap (λ xs. bytes_from c (lane_firsts pixels lane count k) xs (whole_byte_count c (length (lane_firsts pixels lane count k) + 1)))
+    ∙ (ap (λ xs. bytes_from c (lane_firsts pixels lane count k) xs
+      (whole_byte_count c (length (lane_firsts pixels lane count k) + 1)))
     (sym (one_more pixels lane count k))
     ∙ ap (λ n. span (line_byte (lane_line c (lane_firsts pixels lane count (k + 1))) 0) (whole_byte_count c n)
     (whole_byte_count c (n + 1) - whole_byte_count c n)) size) in
@@ -150,7 +156,8 @@ all_bytes pixels lane count c bytes last pos some before now =
     let k : ℕ = ceil_div (length pixels) count in
     let w : ℕ = whole_byte_count c k in
     let s : ℕ = symbols_of (length pixels) count (3 * c) in
-    let size : length (lane_firsts pixels lane count (ceil_div (length pixels) count)) ≡ ceil_div (length pixels) count =
+    let size : length (lane_firsts pixels lane count (ceil_div (length pixels) count))
+      ≡ ceil_div (length pixels) count =
     length-span (λ group. get_or pixels (lane + count * group) black) 0 (ceil_div (length pixels) count) in
     let covers : length pixels ≤ count * ceil_div (length pixels) count = ceil_covers (length pixels) count some in
     let rest : last ≡ span (line_byte (lane_line c (lane_firsts pixels lane count k)) 0) w (s - w) =
@@ -168,7 +175,8 @@ all_bytes pixels lane count c bytes last pos some before now =
     rw (before, rest, same) (sym (ap (λ n. span f 0 n) total ∙ span-append f 0 w (s - w)))
   where
     either : length pixels ≤ count * ceil_div (length pixels) count → (i : ℕ)
-        → lane_bit c (lane_firsts pixels lane count (ceil_div (length pixels) count)) i ≡ line_bit (line_of pixels count c) lane i
+        → lane_bit c (lane_firsts pixels lane count (ceil_div (length pixels) count)) i
+          ≡ line_bit (line_of pixels count c) lane i
     either covers i = elim (cases_lt i (ceil_div (length pixels) count * (3 * c))) [
       | inl inside ↦ bits_agree pixels lane count c (ceil_div (length pixels) count) i pos inside
       | inr past ↦ zeros_agree pixels lane count c (ceil_div (length pixels) count) i pos covers past

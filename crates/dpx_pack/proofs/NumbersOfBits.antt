@@ -1,5 +1,6 @@
 -- Numbers that are made of bits, the highest first.
-use Rattle.std.proofs.Common.{ℕ, zero, suc, ◌+◌, ◌-◌, ◌*◌, ◌/◌, ◌%◌, ◌^◌, ◌<◌, ◌≡◌, ◌∙◌, map, fold, refl, ap, arith, inl, inr}
+use Rattle.std.proofs.Common.{ℕ, zero, suc, ◌+◌, ◌-◌, ◌*◌, ◌/◌, ◌%◌, ◌^◌, ◌<◌, ◌≡◌, ◌∙◌, map, fold, refl, ap, arith}
+use Rattle.std.proofs.Common.{inl, inr}
 use Rattle.std.specs.Int.{bit_at}
 use Rattle.std.specs.List.{range_with_len}
 use Rattle.std.proofs.Math.Nat.{pow-suc}
@@ -15,12 +16,14 @@ number_at bits place start (suc n) = 2 * number_at bits place start n + bits (pl
 number_from : (ℕ → ℕ) → ℕ → ℕ → ℕ → ℕ
 number_from bits place start n = fold (λ number bit. 2 * number + bit) start (map bits (range_with_len place n))
 
-shift : (bits : ℕ → ℕ) (place start n : ℕ) → number_at bits (place + 1) (2 * start + bits place) n ≡ number_at bits place start (suc n)
+shift : (bits : ℕ → ℕ) (place start n : ℕ)
+    → number_at bits (place + 1) (2 * start + bits place) n ≡ number_at bits place start (suc n)
 unfolding number_at
 shift bits place start zero = let e : place + 0 ≡ place = omega arith in rw e refl
 shift bits place start (suc n) =
     let e : place + 1 + n ≡ place + suc n = omega arith in
-    ap (λ z. 2 * z + bits (place + 1 + n)) (shift bits place start n) ∙ ap (λ z. 2 * number_at bits place start (suc n) + bits z) e
+    ap (λ z. 2 * z + bits (place + 1 + n)) (shift bits place start n)
+      ∙ ap (λ z. 2 * number_at bits place start (suc n) + bits z) e
 
 number_is : (bits : ℕ → ℕ) (place start n : ℕ) → number_from bits place start n ≡ number_at bits place start n
 unfolding number_at number_from
@@ -60,7 +63,8 @@ bit_of bits place (suc n) k small h = elim (cases_lt k n) [
 pub bit_of_number : (bits : ℕ → ℕ) (place n k : ℕ) → ((i : ℕ) → bits i < 2) → k < n
     → bit_at (number_of (map bits (range_with_len place n))) (n - 1 - k) ≡ bits (place + k)
 unfolding number_from
-bit_of_number bits place n k small h = ap (λ z. bit_at z (n - 1 - k)) (number_is bits place 0 n) ∙ bit_of bits place n k small h
+bit_of_number bits place n k small h = ap (λ z. bit_at z (n - 1 - k)) (number_is bits place 0 n)
+    ∙ bit_of bits place n k small h
 
 at_small : (bits : ℕ → ℕ) (place n : ℕ) → ((i : ℕ) → bits i < 2) → number_at bits place 0 n < 2 ^ n
 unfolding number_at
@@ -72,6 +76,7 @@ at_small bits place (suc n) small =
     omega (arith, at_small bits place n small, small (place + n))
 
 -- a number of n bits is below 2^n
-pub number_small : (bits : ℕ → ℕ) (place n : ℕ) → ((i : ℕ) → bits i < 2) → number_of (map bits (range_with_len place n)) < 2 ^ n
+pub number_small : (bits : ℕ → ℕ) (place n : ℕ) → ((i : ℕ) → bits i < 2)
+    → number_of (map bits (range_with_len place n)) < 2 ^ n
 unfolding number_from
 number_small bits place n small = omega (arith, number_is bits place 0 n, at_small bits place n small)

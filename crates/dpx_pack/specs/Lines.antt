@@ -1,5 +1,6 @@
 -- Whole lines, packed on their lanes.
-use Rattle.std.specs.Prelude.{ℕ, ◌≡◌, ◌+◌, ◌*◌, ◌/◌, ◌%◌, ◌<◌, ◌≤◌, List, [], length, map, slice_index, slice_index_or}
+use Rattle.std.specs.Prelude.{ℕ, ◌≡◌, ◌+◌, ◌*◌, ◌/◌, ◌%◌, ◌<◌, ◌≤◌, List, [], length, map, slice_index}
+use Rattle.std.specs.Prelude.{slice_index_or}
 use Rattle.std.specs.List.{range_with_len}
 use Rattle.dpx_base.specs.declared.pixel.Pixel.{Pixel}
 use Rattle.dpx_base.specs.Packing.{Line, line_bit, line_byte}
@@ -27,7 +28,8 @@ byte_of lanes lane j = slice_index (slice_index_or lanes lane []) j
 
 -- the pixels that a lane's bytes make whole
 unfoldable pub lane_pixels : (depth : ℕ) → (bytes : List ℕ) → List Pixel
-lane_pixels depth bytes = span (carried_pixel depth (λ j. slice_index bytes j)) 0 (whole_pixel_count depth (length bytes))
+lane_pixels depth bytes = span (carried_pixel depth (λ j. slice_index bytes j)) 0
+    (whole_pixel_count depth (length bytes))
 
 -- the lane that has pixel x, where the lanes have them in turn
 abbrev pub lane_with : (lanes : List (List Pixel)) → (x : ℕ) → List Pixel

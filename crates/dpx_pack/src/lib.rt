@@ -1,6 +1,7 @@
 //! Packing: the pixels of a line as bytes on the lanes, and back.
 //!
 //! * `packer`, `unpacker`: one lane, pixel by pixel and byte by byte
+//! * `range`: the components that a depth has room for
 //! * `packed_bytes`: the bytes that a pixel makes whole
 //! * `bits`: numbers put together out of bits, and taken apart
 //! * `growing`: lists at whose end something is put
@@ -15,6 +16,7 @@ mod line_bytes;
 mod packed_bytes;
 mod packer;
 mod packing;
+mod range;
 mod unpacker;
 mod unpacking;
 
@@ -23,5 +25,6 @@ pub use line_bytes::LineBytes;
 pub use packed_bytes::PackedBytes;
 pub use packer::Packer;
 pub use packing::pack_line;
+pub use range::{are_in_range, is_in_range};
 pub use unpacker::Unpacker;
 pub use unpacking::unpack_line;

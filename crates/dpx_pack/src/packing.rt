@@ -1,6 +1,7 @@
-ghost use Rattle.std.specs.Prelude.{◌≡◌, ◌<◌, ◌≤◌, All, IfOk, length, slice_index_or};
+ghost use Rattle.std.specs.Prelude.{◌≡◌, ◌<◌, ◌≤◌, ◌*◌, All, IfOk, length, slice_index_or};
 ghost use Rattle.dpx_base.specs.Lanes.{lanes_count};
 ghost use Rattle.dpx_base.specs.Mode.{depth_bits};
+ghost use Rattle.dpx_base.specs.Timing.{symbols_of};
 ghost use Rattle.dpx_base.specs.Unpacking.{InRange};
 ghost use Rattle.dpx_base.specs.Sets.{black};
 ghost use Rattle.dpx_pack.specs.Lanes.{line_of};
@@ -20,7 +21,9 @@ pub fn pack_line(
 ) -> Result<LineBytes, Memory>
     requires width { (1 ≤ length pixels.now) × (length pixels.now ≤ 8192) }
     requires range { All (InRange (depth_bits depth)) pixels.now }
-    ensures { IfOk result (λ line. line ≡ packed_lanes (line_of pixels.now (lanes_count lanes) (depth_bits depth))) }
+    ensures bytes { IfOk result (λ line. line ≡ packed_lanes (line_of pixels.now (lanes_count lanes) (depth_bits depth))) }
+    ensures lengths { IfOk result (λ line.
+        All (λ bytes. length bytes ≡ symbols_of (length pixels.now) (length line) (3 * depth_bits depth)) line) }
 {
     match depth {
         Depth::Six => pack_lanes::<6>(alloc, pixels, lanes),
@@ -39,7 +42,9 @@ fn pack_lanes<const C: usize>(
     requires depth { (6 ≤ C) × (C ≤ 16) }
     requires width { (1 ≤ length pixels.now) × (length pixels.now ≤ 8192) }
     requires range { All (InRange C) pixels.now }
-    ensures { IfOk result (λ line. line ≡ packed_lanes (line_of pixels.now (lanes_count lanes) C)) }
+    ensures bytes { IfOk result (λ line. line ≡ packed_lanes (line_of pixels.now (lanes_count lanes) C)) }
+    ensures lengths { IfOk result (λ line.
+        All (λ bytes. length bytes ≡ symbols_of (length pixels.now) (length line) (3 * C)) line) }
 {
     let count = usize::from(lanes.count());
     let mut packed = Vec::new(alloc);

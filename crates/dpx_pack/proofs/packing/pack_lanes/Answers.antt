@@ -5,6 +5,7 @@ use Rattle.dpx_base.specs.Lanes.{lanes_count}
 use Rattle.dpx_pack.specs.Lanes.{line_of}
 use Rattle.dpx_pack.specs.Lines.{lane_bytes, packed_lanes}
 use Rattle.dpx_pack.specs.Positions.{span}
+use Rattle.dpx_pack.proofs.ComeBack.{packed_lengths}
 use Rattle.dpx_pack.proofs.Spans.{span-none, map_more, length_mapped}
 use Rattle.dpx_pack.proofs.packing.pack_lanes.Goals as goal
 
@@ -27,15 +28,21 @@ pub from_lanes-requires : goal.from_lanes-requires
 from_lanes-requires g c =
     let size : length c.loop-lane.packed.items ≡ c.loop-lane.lane =
     length_mapped (λ bytes. bytes.items) _ c.loop-lane.packed.items c.loop-lane.lane c.loop-lane.invariant in
-    one_two_or_four c.args.lanes _ (omega (arith, size, c.loop-lane-test.false, c.loop-lane.auto.lane-end, c.from-count.ensures, c.count.ensures))
+    one_two_or_four c.args.lanes _ (omega (arith, size, c.loop-lane-test.false, c.loop-lane.auto.lane-end,
+      c.from-count.ensures, c.count.ensures))
 
-pub returns : goal.returns
+pub returns-clause-bytes : goal.returns-clause-bytes
 unfolding packed_lanes
-returns g c =
+returns-clause-bytes g c =
     let end : c.loop-lane.lane ≡ lanes_count c.args.lanes =
     omega (arith, c.loop-lane-test.false, c.loop-lane.auto.lane-end, c.from-count.ensures, c.count.ensures) in
-    let same : c.from-count.result ≡ lanes_count c.args.lanes = omega (arith, c.from-count.ensures, c.count.ensures) in
+    let same : c.from-count.result ≡ lanes_count c.args.lanes =
+      omega (arith, c.from-count.ensures, c.count.ensures) in
     c.from_lanes.ensures
     ∙ (c.loop-lane.invariant
     ∙ (ap (λ n. span (lane_bytes (line_of c.args.pixels.now n g.row.C)) 0 c.loop-lane.lane) same
     ∙ ap (λ n. span (lane_bytes (line_of c.args.pixels.now (lanes_count c.args.lanes) g.row.C)) 0 n) end))
+
+pub returns-clause-lengths : goal.returns-clause-lengths
+returns-clause-lengths g c =
+    rw (returns-clause-bytes g c) (packed_lengths (line_of c.args.pixels.now (lanes_count c.args.lanes) g.row.C))
