@@ -1,5 +1,6 @@
 -- What is left of the bytes that an unpacker has taken.
-use Rattle.std.proofs.Common.{◌≡◌, ℕ, true, false, ◌<◌, ◌≤◌, ◌+◌, ◌-◌, ◌*◌, ◌/◌, ◌%◌, ◌^◌, List, [], ◌∷◌, ◌++◌, length, refl, sym, ap, arith, ◌∙◌, get_or, length-append, Some, None}
+use Rattle.std.proofs.Common.{◌≡◌, ℕ, true, false, ◌<◌, ◌≤◌, ◌+◌, ◌-◌, ◌*◌, ◌/◌, ◌%◌, ◌^◌, List, [], ◌∷◌, ◌++◌}
+use Rattle.std.proofs.Common.{length, refl, sym, ap, arith, ◌∙◌, get_or, length-append, Some, None}
 use Rattle.std.specs.Prelude.{nat_lt, if◌then◌else◌}
 use Rattle.std.specs.Int.{bit_at}
 use Rattle.std.proofs.Math.Seq.{get_or-append_seam}
@@ -18,11 +19,11 @@ use Rattle.dpx_pack.proofs.Places.{bits_are, number_back, split_alike}
 use Rattle.dpx_pack.proofs.Spans.{span-none, span-same, span-append, length-span}
 
 -- the bits of a lane with these bytes
-abbrev bit_in : List ℕ → ℕ → ℕ
+abbrev pub bit_in : List ℕ → ℕ → ℕ
 bit_in bytes = carried_bit (λ j. get_or bytes j 0)
 
 -- further bytes leave the bits as they are
-bit_stays : (bytes more : List ℕ) (i : ℕ) → i < 8 * length bytes → bit_in (bytes ++ more) i ≡ bit_in bytes i
+pub bit_stays : (bytes more : List ℕ) (i : ℕ) → i < 8 * length bytes → bit_in (bytes ++ more) i ≡ bit_in bytes i
 unfolding carried_bit
 bit_stays bytes more i h =
     ap (λ byte. bit_at byte (7 - i % 8)) (get_or_append_left bytes more 0 (i / 8) (omega (arith, h)))
@@ -46,9 +47,11 @@ left_and_next c bytes byte old pos is =
     let f : ℕ → ℕ = bit_in (bytes ++ byte ∷ []) in
     let n : ℕ = 8 * length bytes in
     let s : ℕ = 3 * c * whole_pixel_count c (length bytes) in
-    let few : 3 * c * whole_pixel_count c (length bytes) ≤ 8 * length bytes = quotient_below (8 * length bytes) (3 * c) in
+    let few : 3 * c * whole_pixel_count c (length bytes) ≤ 8 * length bytes =
+      quotient_below (8 * length bytes) (3 * c) in
     let front : span (bit_in bytes) s (n - s) ≡ span f s (n - s) =
-    span-same (bit_in bytes) f s s (n - s) (λ k h. sym (bit_stays bytes (byte ∷ []) (s + k) (omega (arith, h, few)))) in
+    span-same (bit_in bytes) f s s (n - s) (λ k h. sym (bit_stays bytes (byte ∷ []) (s + k) (omega (arith, h, few))))
+      in
     let next : low_bits 8 byte ≡ span f (s + (n - s)) 8 =
     bits_are 8 byte
     ∙ span-same (λ i. bit_at byte (8 - 1 - i)) f 0 (s + (n - s)) 8 (λ k h.
@@ -71,14 +74,15 @@ length_left c bytes old pos is =
       div-add-mod' (8 * length bytes) (3 * c),
     )
 
-quotient_is : (a d q r : ℕ) → a ≡ d * q + r → r < d → a / d ≡ q
+pub quotient_is : (a d q r : ℕ) → a ≡ d * q + r → r < d → a / d ≡ q
 quotient_is a d q r e h = rw (e ∙ turned) (div-mul-add q d r h)
   where
     turned : d * q + r ≡ q * d + r
     turned = omega arith
 
 -- a byte that completes no pixel
-pub waits : (c : ℕ) (bytes : List ℕ) (byte : ℕ) (old : List ℕ) → 1 ≤ c → LeftOfBytes c bytes old → length old + 8 < 3 * c
+pub waits : (c : ℕ) (bytes : List ℕ) (byte : ℕ) (old : List ℕ) → 1 ≤ c → LeftOfBytes c bytes old
+    → length old + 8 < 3 * c
     → (pixel_completed c bytes byte ≡ None) × LeftOfBytes c (bytes ++ byte ∷ []) (old ++ low_bits 8 byte)
 waits c bytes byte old pos is few =
     let w : ℕ = whole_pixel_count c (length bytes) in
@@ -110,10 +114,12 @@ pub record IsThere (c : ℕ) (f : ℕ → ℕ) (start : ℕ) (p : Pixel) : Type 
   pub b : low_bits c p.b ≡ span f (start + c + c) c
 
 -- the bits of a pixel's components
-components_there : (c : ℕ) (f : ℕ → ℕ) (start : ℕ) (p : Pixel) → bits_of_pixel c p ≡ span f start (3 * c) → IsThere c f start p
+components_there : (c : ℕ) (f : ℕ → ℕ) (start : ℕ) (p : Pixel) → bits_of_pixel c p ≡ span f start (3 * c)
+    → IsThere c f start p
 components_there c f start p e =
     let three : 3 * c ≡ c + c + c = omega arith in
-    let last : (low_bits c p.r ++ low_bits c p.g) ++ low_bits c p.b ≡ span f start (c + c) ++ span f (start + (c + c)) c =
+    let last : (low_bits c p.r ++ low_bits c p.g) ++ low_bits c p.b
+      ≡ span f start (c + c) ++ span f (start + (c + c)) c =
     e ∙ (ap (λ k. span f start k) three ∙ span-append f start (c + c) c) in
     let two : length (low_bits c p.r ++ low_bits c p.g) ≡ length (span f start (c + c)) =
     omega (
@@ -123,7 +129,8 @@ components_there c f start p e =
       length-low_bits c p.g,
       length-span f start (c + c),
     ) in
-    let parts = split_alike (low_bits c p.r ++ low_bits c p.g) (span f start (c + c)) (low_bits c p.b) (span f (start + (c + c)) c) two last in
+    let parts = split_alike (low_bits c p.r ++ low_bits c p.g) (span f start (c + c)) (low_bits c p.b)
+      (span f (start + (c + c)) c) two last in
     let halves = split_alike (low_bits c p.r) (span f start c) (low_bits c p.g) (span f (start + c) c)
     (length-low_bits c p.r ∙ sym (length-span f start c)) (parts.0 ∙ span-append f start c c) in
     record {
@@ -136,9 +143,11 @@ same_pixel : (c : ℕ) (byte : ℕ → ℕ) (k start : ℕ) (p : Pixel) → star
     → IsThere c (carried_bit byte) start p → p ≡ carried_pixel c byte k
 same_pixel c byte k start p at small there =
     let r : p.r ≡ carried_component c byte k 0 =
-    component_from c (carried_bit byte) start p.r there.r small.r ∙ component_is c byte k 0 start (omega (arith, at)) in
+    component_from c (carried_bit byte) start p.r there.r small.r
+      ∙ component_is c byte k 0 start (omega (arith, at)) in
     let g : p.g ≡ carried_component c byte k 1 =
-    component_from c (carried_bit byte) (start + c) p.g there.g small.g ∙ component_is c byte k 1 (start + c) (omega (arith, at)) in
+    component_from c (carried_bit byte) (start + c) p.g there.g small.g
+      ∙ component_is c byte k 1 (start + c) (omega (arith, at)) in
     let b : p.b ≡ carried_component c byte k 2 =
     component_from c (carried_bit byte) (start + c + c) p.b there.b small.b
     ∙ component_is c byte k 2 (start + c + c) (omega (arith, at)) in
@@ -159,7 +168,8 @@ completes c bytes byte old new p some is many short small e =
     (omega (arith, sum, many)) (omega (arith, some, short)) in
     let taken : length (bytes ++ byte ∷ []) ≡ length bytes + 1 = length-append bytes (byte ∷ []) in
     let parts : 8 * (length bytes + 1) - 3 * c * w ≡ 3 * c + (length old + 8 - 3 * c) = omega (arith, sum, many) in
-    let split : bits_of_pixel c p ++ new ≡ span f (3 * c * w) (3 * c) ++ span f (3 * c * w + 3 * c) (length old + 8 - 3 * c) =
+    let split : bits_of_pixel c p ++ new ≡ span f (3 * c * w) (3 * c)
+      ++ span f (3 * c * w + 3 * c) (length old + 8 - 3 * c) =
     sym e ∙ (left_and_next c bytes byte old pos is
     ∙ (ap (λ k. span f (3 * c * w) k) parts ∙ span-append f (3 * c * w) (3 * c) (length old + 8 - 3 * c))) in
     let size : length (bits_of_pixel c p) ≡ length (span f (3 * c * w) (3 * c)) =
@@ -172,14 +182,17 @@ completes c bytes byte old new p some is many short small e =
       length-low_bits c p.b,
       length-span f (3 * c * w) (3 * c),
     ) in
-    let both = split_alike (bits_of_pixel c p) (span f (3 * c * w) (3 * c)) new (span f (3 * c * w + 3 * c) (length old + 8 - 3 * c)) size split in
+    let both = split_alike (bits_of_pixel c p) (span f (3 * c * w) (3 * c)) new
+      (span f (3 * c * w + 3 * c) (length old + 8 - 3 * c)) size split in
     let pixel : p ≡ carried_pixel c (λ j. get_or (bytes ++ byte ∷ []) j 0) w =
-    same_pixel c (λ j. get_or (bytes ++ byte ∷ []) j 0) w (3 * c * w) p refl small (components_there c f (3 * c * w) p both.0) in
+    same_pixel c (λ j. get_or (bytes ++ byte ∷ []) j 0) w (3 * c * w) p refl small
+      (components_there c f (3 * c * w) p both.0) in
     let test : nat_lt w (w + 1) ≡ true = lt-ltb w (w + 1) (omega arith) in
     let start : 3 * c * (w + 1) ≡ 3 * c * w + 3 * c = omega arith in
     let rest : 8 * (length bytes + 1) - 3 * c * (w + 1) ≡ length old + 8 - 3 * c = omega (arith, sum, many) in (
       ap Some pixel
-          ∙ sym (ap (λ k. if nat_lt w k then Some (carried_pixel c (λ j. get_or (bytes ++ byte ∷ []) j 0) w) else None) next
+          ∙ sym (ap (λ k. if nat_lt w k then Some
+            (carried_pixel c (λ j. get_or (bytes ++ byte ∷ []) j 0) w) else None) next
           ∙ ap (λ b. if b then Some (carried_pixel c (λ j. get_or (bytes ++ byte ∷ []) j 0) w) else None) test),
       both.1
           ∙ (ap (λ s. span f s (length old + 8 - 3 * c)) (sym start)

@@ -1,5 +1,8 @@
 -- Bits of numbers put together.
-use Rattle.std.proofs.Common.{◌≡◌, ℕ, zero, suc, ◌<◌, ◌≤◌, ◌+◌, ◌-◌, ◌*◌, ◌/◌, ◌%◌, ◌^◌, List, [], ◌∷◌, ◌++◌, length, refl, sym, ap, arith, add-suc, add-zero, append_assoc, ◌∙◌, length-append, rules, replicate}
+use Rattle.std.proofs.Common.{◌≡◌, ℕ, zero, suc, ◌<◌, ◌≤◌, ◌+◌, ◌-◌, ◌*◌, ◌/◌, ◌%◌, ◌^◌, List, [], ◌∷◌, ◌++◌, length}
+use Rattle.std.proofs.Common.{refl, sym, ap, arith, add-suc, add-zero, append_assoc, ◌∙◌, length-append, rules}
+use Rattle.std.proofs.Common.{replicate}
+use Rattle.std.proofs.lemmas.List.{append-nil}
 use Rattle.std.proofs.lemmas.Nat.{pow-add}
 use Rattle.std.proofs.Math.Nat.{pow-suc, mod-eq_of_lt, mod-lt, mul-le-mul_right, div-lt_iff_lt-mul}
 use Rattle.std.proofs.Math.Pow.{pow_mono, pow_pos}
@@ -11,10 +14,6 @@ half_of q y = omega arith
 pub low_of : (q y : ℕ) → (q * 2 + y) % 2 ≡ y % 2
 low_of q y = omega arith
 
-pub low_bits-zero : (n : ℕ) (v : ℕ) → v ≡ 0 → low_bits 0 v ≡ []
-unfolding low_bits
-low_bits-zero n v h = refl
-
 pub low_bits-join : (n m x y : ℕ) → y < 2 ^ m → low_bits (n + m) (x * 2 ^ m + y) ≡ low_bits n x ++ low_bits m y
 unfolding low_bits
 low_bits-join n zero x y h =
@@ -25,7 +24,8 @@ low_bits-join n (suc m) x y h =
     let p : x * 2 ^ suc m ≡ (x * 2 ^ m) * 2 = omega (arith, pow-suc 2 m, ap (λ (z : ℕ). x * z) (pow-suc 2 m)) in
     let v : x * 2 ^ suc m + y ≡ (x * 2 ^ m) * 2 + y = ap (λ (z : ℕ). z + y) p in
     let small : y / 2 < 2 ^ m = omega (arith, pow-suc 2 m) in
-    let ih : low_bits (n + m) (x * 2 ^ m + y / 2) ≡ low_bits n x ++ low_bits m (y / 2) = low_bits-join n m x (y / 2) small in
+    let ih : low_bits (n + m) (x * 2 ^ m + y / 2) ≡ low_bits n x ++ low_bits m (y / 2) =
+      low_bits-join n m x (y / 2) small in
     rw (add-suc, v, half_of, low_of, ih) (append_assoc (low_bits n x) (low_bits m (y / 2)) ((y % 2) ∷ []))
 
 pub room_for : (v l m w : ℕ) → v < 2 ^ l → m < 2 ^ w → v * 2 ^ w + m < 2 ^ (l + w)
@@ -49,41 +49,19 @@ low_bits-split n m v =
 pub length-low_bits : (n v : ℕ) → length (low_bits n v) ≡ n
 unfolding low_bits
 length-low_bits zero v = refl
-length-low_bits (suc n) v = omega (arith, length-append (low_bits n (v / 2)) ((v % 2) ∷ []), length-low_bits n (v / 2))
+length-low_bits (suc n) v = omega (arith, length-append (low_bits n (v / 2)) ((v % 2) ∷ []),
+    length-low_bits n (v / 2))
 
 pub bits_of_bytes-append : (xs ys : List ℕ) → bits_of_bytes (xs ++ ys) ≡ bits_of_bytes xs ++ bits_of_bytes ys
 unfolding bits_of_bytes
 bits_of_bytes-append [] ys = refl
-bits_of_bytes-append (x ∷ xs) ys = rw (bits_of_bytes-append xs ys) (sym (append_assoc (low_bits 8 x) (bits_of_bytes xs) (bits_of_bytes ys)))
-
-pub append-nil : (xs : List ℕ) → xs ++ [] ≡ xs
-append-nil [] = refl
-append-nil (x ∷ xs) = ap (λ (l : List ℕ). x ∷ l) (append-nil xs)
-
-pub byte_out : (k rest : ℕ) (out all : List ℕ) → all ≡ bits_of_bytes out ++ low_bits (8 + k) rest → all ≡ bits_of_bytes (out ++ (rest / 2 ^ k) ∷ []) ++ low_bits k (rest % 2 ^ k)
-unfolding bits_of_bytes
-byte_out k rest out all h =
-    let b : bits_of_bytes (out ++ (rest / 2 ^ k) ∷ []) ≡ bits_of_bytes out ++ low_bits 8 (rest / 2 ^ k) =
-    bits_of_bytes-append out ((rest / 2 ^ k) ∷ []) ∙ ap (λ (l : List ℕ). bits_of_bytes out ++ l) (append-nil (low_bits 8 (rest / 2 ^ k))) in
-    h ∙ (ap (λ (l : List ℕ). bits_of_bytes out ++ l) (low_bits-split 8 k rest)
-    ∙ (sym (append_assoc (bits_of_bytes out) (low_bits 8 (rest / 2 ^ k)) (low_bits k (rest % 2 ^ k)))
-    ∙ ap (λ (l : List ℕ). l ++ low_bits k (rest % 2 ^ k)) (sym b)))
-
-pub byte_out_at : (l rest : ℕ) (out all : List ℕ) → 8 ≤ l → all ≡ bits_of_bytes out ++ low_bits l rest → all ≡ bits_of_bytes (out ++ (rest / 2 ^ (l - 8)) ∷ []) ++ low_bits (l - 8) (rest % 2 ^ (l - 8))
-byte_out_at l rest out all r h =
-    let e : l ≡ 8 + (l - 8) = omega arith in
-    byte_out (l - 8) rest out all (h ∙ ap (λ (n : ℕ). bits_of_bytes out ++ low_bits n rest) e)
+bits_of_bytes-append (x ∷ xs) ys = rw (bits_of_bytes-append xs ys)
+    (sym (append_assoc (low_bits 8 x) (bits_of_bytes xs) (bits_of_bytes ys)))
 
 pub one_shifted : (k : ℕ) → k < 64 → 1 * 2 ^ k % 18446744073709551616 ≡ 2 ^ k
 one_shifted k h =
     let e : 1 * 2 ^ k ≡ 2 ^ k = omega arith in
     rw e (mod-eq_of_lt (omega (arith, pow_mono {i = suc k} {j = 64} h, pow-suc 2 k, pow_pos k)))
-
-pub top_byte : (l v : ℕ) → v < 2 ^ l → 8 ≤ l → v / 2 ^ (l - 8) < 256
-top_byte l v h r =
-    let e : 2 ^ l ≡ 2 ^ (8 + (l - 8)) = ap (λ (n : ℕ). 2 ^ n) (omega arith) in
-    let f : v < 256 * 2 ^ (l - 8) = omega (arith, e, pow-add 2 8 (l - 8)) in
-    (div-lt_iff_lt-mul {k = 2 ^ (l - 8)} {x = v} {y = 256} (pow_pos (l - 8))).1 f
 
 pub top_bits : (c w v : ℕ) → v < 2 ^ c → w ≤ c → v / 2 ^ (c - w) < 2 ^ w
 top_bits c w v h r =
@@ -119,13 +97,15 @@ padded_small v l h k =
     let e : 2 ^ (l + (8 - l)) ≡ 2 ^ 8 = ap (λ (n : ℕ). 2 ^ n) n in
     rw (padded_is v l h k) (omega (arith, room_for v l 0 (8 - l) k (pow_pos (8 - l)), e))
 
-pub padded_bits : (v l : ℕ) → l < 8 → v < 2 ^ l → low_bits 8 (v * 2 ^ (8 - l) % 18446744073709551616) ≡ low_bits l v ++ replicate (8 - l) 0
+pub padded_bits : (v l : ℕ) → l < 8 → v < 2 ^ l
+    → low_bits 8 (v * 2 ^ (8 - l) % 18446744073709551616) ≡ low_bits l v ++ replicate (8 - l) 0
 padded_bits v l h k =
     let n : 8 ≡ l + (8 - l) = omega arith in
     let z : v * 2 ^ (8 - l) ≡ v * 2 ^ (8 - l) + 0 = omega arith in
     rw (padded_is v l h k)
     (ap (λ (m : ℕ). low_bits m (v * 2 ^ (8 - l))) n ∙ (ap (low_bits (l + (8 - l))) z
-    ∙ (low_bits-join l (8 - l) v 0 (pow_pos (8 - l)) ∙ ap (λ (t : List ℕ). low_bits l v ++ t) (low_bits-zeros (8 - l)))))
+    ∙ (low_bits-join l (8 - l) v 0 (pow_pos (8 - l))
+      ∙ ap (λ (t : List ℕ). low_bits l v ++ t) (low_bits-zeros (8 - l)))))
 
 pub one_byte : (x : ℕ) → bits_of_bytes (x ∷ []) ≡ low_bits 8 x
 unfolding bits_of_bytes
@@ -144,4 +124,5 @@ padding_is (bit ∷ bits) h =
 pub length-bits_of_bytes : (xs : List ℕ) → length (bits_of_bytes xs) ≡ 8 * length xs
 unfolding bits_of_bytes
 length-bits_of_bytes [] = refl
-length-bits_of_bytes (x ∷ xs) = omega (arith, length-append (low_bits 8 x) (bits_of_bytes xs), length-low_bits 8 x, length-bits_of_bytes xs)
+length-bits_of_bytes (x ∷ xs) = omega (arith, length-append (low_bits 8 x) (bits_of_bytes xs), length-low_bits 8 x,
+    length-bits_of_bytes xs)

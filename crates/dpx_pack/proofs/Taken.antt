@@ -1,12 +1,13 @@
 -- What is left of the pixels that a packer has taken.
-use Rattle.std.proofs.Common.{◌≡◌, ℕ, zero, suc, false, ◌<◌, ◌≤◌, ◌+◌, ◌-◌, ◌*◌, ◌/◌, ◌%◌, List, [], ◌∷◌, ◌++◌, length, refl, sym, ap, arith, ◌∙◌, All, get_or, length-append, replicate}
+use Rattle.std.proofs.Common.{◌≡◌, ℕ, zero, suc, false, ◌<◌, ◌≤◌, ◌+◌, ◌-◌, ◌*◌, ◌/◌, ◌%◌, List, [], ◌∷◌, ◌++◌}
+use Rattle.std.proofs.Common.{length, refl, sym, ap, arith, ◌∙◌, All, get_or, length-append, replicate}
 use Rattle.std.specs.Prelude.{nat_lt}
 use Rattle.std.specs.Int.{bit_at}
 use Rattle.std.proofs.Math.Nat.{mod-lt, div-lt_iff_lt-mul}
 use Rattle.std.proofs.Math.Seq.{get_or-append_seam}
 use Rattle.std.proofs.lemmas.Bool.{lt-ltb}
 use Rattle.std.proofs.lemmas.Bool.Decides.{nat_tests}
-use Rattle.std.proofs.lemmas.List.{get_or_append_left}
+use Rattle.std.proofs.lemmas.List.{append-nil, get_or_append_left}
 use Rattle.std.proofs.lemmas.Nat.{div-mul-add, mod-mul-add, le-div}
 use Rattle.dpx_base.specs.declared.pixel.Pixel.{Pixel}
 use Rattle.dpx_base.specs.Packing.{component, line_bit, line_byte}
@@ -20,11 +21,11 @@ use Rattle.dpx_pack.proofs.Places.{pixel_bit, byte_at, bits_of_pixel_are, packed
 use Rattle.dpx_pack.proofs.Spans.{span-none, span-cons, span-same, span-append, length-span}
 
 -- the bits of a lane with these pixels
-abbrev lane_bit : (depth : ℕ) → List Pixel → ℕ → ℕ
+abbrev pub lane_bit : (depth : ℕ) → List Pixel → ℕ → ℕ
 lane_bit depth pixels = line_bit (lane_line depth pixels) 0
 
 -- the bit of a pixel that is there
-bit_there : (c : ℕ) (xs : List Pixel) (i : ℕ) → i / (3 * c) < length xs
+pub bit_there : (c : ℕ) (xs : List Pixel) (i : ℕ) → i / (3 * c) < length xs
     → lane_bit c xs i ≡ bit_at (component (get_or xs (i / (3 * c)) black) (i % (3 * c) / c)) (c - 1 - i % c)
 unfolding line_bit
 bit_there c xs i h =
@@ -32,12 +33,15 @@ bit_there c xs i h =
     rw (x, lt-ltb (i / (3 * c)) (length xs) h) refl
 
 -- further pixels leave the bits as they are
-pub bit_stays : (c : ℕ) (xs ys : List Pixel) (i : ℕ) → 1 ≤ c → i < length xs * (3 * c) → lane_bit c (xs ++ ys) i ≡ lane_bit c xs i
+pub bit_stays : (c : ℕ) (xs ys : List Pixel) (i : ℕ) → 1 ≤ c → i < length xs * (3 * c)
+    → lane_bit c (xs ++ ys) i ≡ lane_bit c xs i
 bit_stays c xs ys i pos h =
-    let here : i / (3 * c) < length xs = (div-lt_iff_lt-mul {k = 3 * c} {x = i} {y = length xs} (omega (arith, pos))).1 h in
+    let here : i / (3 * c) < length xs = (div-lt_iff_lt-mul {k = 3 * c} {x = i} {y =
+      length xs} (omega (arith, pos))).1 h in
     let there : i / (3 * c) < length (xs ++ ys) = omega (arith, here, length-append xs ys) in
     bit_there c (xs ++ ys) i there
-    ∙ (ap (λ p. bit_at (component p (i % (3 * c) / c)) (c - 1 - i % c)) (get_or_append_left xs ys black (i / (3 * c)) here)
+    ∙ (ap (λ p. bit_at (component p (i % (3 * c) / c)) (c - 1 - i % c))
+      (get_or_append_left xs ys black (i / (3 * c)) here)
     ∙ sym (bit_there c xs i here))
 
 -- the bits of the next pixel
@@ -51,12 +55,13 @@ bit_of_next c xs p k pos h =
     let parts : length xs * (3 * c) + k ≡ (length xs * 3 + k / c) * c + k % c = omega (arith, h) in
     let low : (length xs * (3 * c) + k) % c ≡ k % c =
     ap (λ i. i % c) parts ∙ mod-mul-add (length xs * 3 + k / c) c (k % c) (mod-lt k pos) in
-    let there : (length xs * (3 * c) + k) / (3 * c) < length (xs ++ p ∷ []) = omega (arith, q, length-append xs (p ∷ [])) in
+    let there : (length xs * (3 * c) + k) / (3 * c) < length (xs ++ p ∷ []) =
+      omega (arith, q, length-append xs (p ∷ [])) in
     sym (bit_there c (xs ++ p ∷ []) (length xs * (3 * c) + k) there
     ∙ rw (q, m, low, get_or-append_seam xs p [] black) refl)
 
 -- behind the pixels there are zeros
-no_bit : (c : ℕ) (xs : List Pixel) (i : ℕ) → 1 ≤ c → length xs * (3 * c) ≤ i → lane_bit c xs i ≡ 0
+pub no_bit : (c : ℕ) (xs : List Pixel) (i : ℕ) → 1 ≤ c → length xs * (3 * c) ≤ i → lane_bit c xs i ≡ 0
 unfolding line_bit
 no_bit c xs i pos h =
     let past : length xs ≤ 0 + 1 * (i / (3 * c)) = le_of_div (length xs) (3 * c) i (omega (arith, pos)) h in
@@ -69,14 +74,16 @@ no_bit c xs i pos h =
 -- the bits of what was left, and those of the next pixel
 left_and_next : (c : ℕ) (xs : List Pixel) (p : Pixel) (old : List ℕ) → 1 ≤ c → LeftOfPixels c xs old
     → old ++ bits_of_pixel c p
-    ≡ span (lane_bit c (xs ++ p ∷ [])) (8 * whole_byte_count c (length xs)) ((length xs + 1) * (3 * c) - 8 * whole_byte_count c (length xs))
+    ≡ span (lane_bit c (xs ++ p ∷ [])) (8 * whole_byte_count c (length xs))
+      ((length xs + 1) * (3 * c) - 8 * whole_byte_count c (length xs))
 left_and_next c xs p old pos is =
     let f : ℕ → ℕ = lane_bit c (xs ++ p ∷ []) in
     let n : ℕ = length xs * (3 * c) in
     let s : ℕ = 8 * whole_byte_count c (length xs) in
     let few : 8 * whole_byte_count c (length xs) ≤ length xs * (3 * c) = omega arith in
     let front : span (lane_bit c xs) s (n - s) ≡ span f s (n - s) =
-    span-same (lane_bit c xs) f s s (n - s) (λ k h. sym (bit_stays c xs (p ∷ []) (s + k) pos (omega (arith, h, few)))) in
+    span-same (lane_bit c xs) f s s (n - s) (λ k h. sym (bit_stays c xs (p ∷ []) (s + k) pos (omega (arith, h, few))))
+      in
     let next : bits_of_pixel c p ≡ span f (s + (n - s)) (3 * c) =
     bits_of_pixel_are c p pos
     ∙ span-same (pixel_bit c p) f 0 (s + (n - s)) (3 * c) (λ k h.
@@ -90,8 +97,10 @@ same_byte : (c : ℕ) (xs : List Pixel) (j : ℕ) → byte_at (lane_bit c xs) j 
 unfolding byte_at line_byte span
 same_byte c xs j = refl
 
-byte_is : (c : ℕ) (xs : List Pixel) (s n : ℕ) → span (byte_at (lane_bit c xs)) s n ≡ span (line_byte (lane_line c xs) 0) s n
-byte_is c xs s n = span-same (byte_at (lane_bit c xs)) (line_byte (lane_line c xs) 0) s s n (λ k h. same_byte c xs (s + k))
+byte_is : (c : ℕ) (xs : List Pixel) (s n : ℕ)
+    → span (byte_at (lane_bit c xs)) s n ≡ span (line_byte (lane_line c xs) 0) s n
+byte_is c xs s n = span-same (byte_at (lane_bit c xs)) (line_byte (lane_line c xs) 0) s s n
+    (λ k h. same_byte c xs (s + k))
 
 pub record IsPushed (c : ℕ) (xs : List Pixel) (p : Pixel) (bytes new : List ℕ) : Type 0 where
   pub bytes_are : bytes ≡ bytes_made_whole c xs p
@@ -116,7 +125,8 @@ pushes c xs p old bytes new pos is e small short =
     let end : w + length bytes ≡ whole_byte_count c (length xs + 1) = omega (arith, size, few, short) in
     let rest : length new ≡ total - 8 * whole_byte_count c (length xs + 1) = omega (arith, size, few, short) in
     record {
-      bytes_are = parts.bytes_are ∙ (byte_is c (xs ++ p ∷ []) w (length bytes) ∙ ap (λ k. span (line_byte (lane_line c (xs ++ p ∷ [])) 0) w k) count);
+      bytes_are = parts.bytes_are ∙ (byte_is c (xs ++ p ∷ []) w (length bytes)
+        ∙ ap (λ k. span (line_byte (lane_line c (xs ++ p ∷ [])) 0) w k) count);
       left_are = parts.left_are
           ∙ (ap (λ j. span f (8 * j) (length new)) end
           ∙ (ap (λ k. span f (8 * whole_byte_count c (length xs + 1)) k) rest
@@ -132,15 +142,12 @@ zeros f a (suc m) h =
     zeros f (a + 1) m (λ k i. ap f (omega arith) ∙ h (suc k) (omega (arith, i))) in
     span-cons f a m ∙ (ap (λ x. x ∷ span f (a + 1) m) first ∙ ap (λ xs. 0 ∷ xs) rest)
 
-padding_counts : (bits : List ℕ) (m : ℕ) → length bits < 8 → m < 8 → (length bits + m) % 8 ≡ 0 → padding bits ≡ replicate m 0
+padding_counts : (bits : List ℕ) (m : ℕ) → length bits < 8 → m < 8 → (length bits + m) % 8 ≡ 0
+    → padding bits ≡ replicate m 0
 padding_counts [] m short few whole =
     let none : 0 ≡ m = omega (arith, few, whole) in ap (λ k. replicate k 0) none
 padding_counts (bit ∷ bits) m short few whole =
     let is : 7 - length bits ≡ m = omega (arith, short, few, whole) in ap (λ k. replicate k 0) is
-
-append_nothing : (xs : List ℕ) → xs ++ [] ≡ xs
-append_nothing [] = refl
-append_nothing (x ∷ xs) = ap (λ (l : List ℕ). x ∷ l) (append_nothing xs)
 
 symbols_are : (count bits : ℕ) → symbols_of count 1 bits ≡ (count * bits + 7) / 8
 unfolding ceil_div
@@ -160,13 +167,14 @@ finishes c xs old bytes pos is e small =
     let size : length old ≡ n - 8 * w = ap length is ∙ length-span f (8 * w) (n - 8 * w) in
     let fill : padding old ≡ span f (8 * w + (n - 8 * w)) (8 * all - n) =
     padding_counts old (8 * all - n) (omega (arith, size)) (omega arith) (omega (arith, size))
-    ∙ sym (zeros f (8 * w + (n - 8 * w)) (8 * all - n) (λ k h. no_bit c xs (8 * w + (n - 8 * w) + k) pos (omega arith))) in
+    ∙ sym (zeros f (8 * w + (n - 8 * w)) (8 * all - n)
+      (λ k h. no_bit c xs (8 * w + (n - 8 * w) + k) pos (omega arith))) in
     let sum : 8 * all - 8 * w ≡ (n - 8 * w) + (8 * all - n) = omega arith in
     let bits : span f (8 * w) (8 * all - 8 * w) ≡ bits_of_bytes bytes ++ [] =
     ap (λ k. span f (8 * w) k) sum
     ∙ (span-append f (8 * w) (n - 8 * w) (8 * all - n)
     ∙ (ap (λ l. l ++ span f (8 * w + (n - 8 * w)) (8 * all - n)) (sym is)
-    ∙ (ap (λ l. old ++ l) (sym fill) ∙ (e ∙ sym (append_nothing (bits_of_bytes bytes)))))) in
+    ∙ (ap (λ l. old ++ l) (sym fill) ∙ (e ∙ sym (append-nil (bits_of_bytes bytes)))))) in
     let parts : IsPacked f w bytes [] = packed f w (8 * all - 8 * w) bytes [] bits small in
     let count : length bytes ≡ all - w =
     omega (

@@ -6,6 +6,7 @@ use dpx_base::Rate;
 use dpx_dpcd::{Cell, Channel};
 use std::process::Abort;
 
+mod attributes;
 mod aux;
 mod base;
 mod dpcd;
@@ -13,6 +14,7 @@ mod files;
 mod link;
 mod main_link;
 mod modes;
+mod packing;
 mod phase;
 mod pipe;
 mod register_file;

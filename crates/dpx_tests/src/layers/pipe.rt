@@ -1,7 +1,10 @@
 ghost use Rattle.std.specs.Prelude.{◌≡◌, IfOk};
 ghost use Rattle.dpx_base.specs.declared.depth.Depth.TheVariants.{Eight};
 
-use dpx_base::{Beam, BeginEnd, Depth, LaneSet, Lanes, Link, MemPipe, Mode, ModeField, Pipe, PipeEnd, Rate, RawMode, Sym};
+use dpx_base::{
+    Beam, BeginEnd, Depth, LaneSet, Lanes, Link, MemPipe, Mode, ModeField, Pipe, PipeEnd, Rate,
+    RawMode, Sym,
+};
 use std::process::Abort;
 use std::test::Fail;
 

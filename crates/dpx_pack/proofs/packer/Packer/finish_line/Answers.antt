@@ -6,7 +6,8 @@ use Rattle.dpx_pack.proofs.packer.Packer.finish_line.Goals as goal
 
 pub returns-then-self-gt0-clause-bits : goal.returns-then-self-gt0-clause-bits
 returns-then-self-gt0-clause-bits g c =
-    let long : length (low_bits c.self.inside.left c.self.inside.value) ≡ c.self.inside.left = length-low_bits c.self.inside.left c.self.inside.value in
+    let long : length (low_bits c.self.inside.left c.self.inside.value) ≡ c.self.inside.left =
+      length-low_bits c.self.inside.left c.self.inside.value in
     rw (
       c.push.ensures.items,
       c.new-bytes.ensures,
@@ -23,10 +24,12 @@ returns-then-self-gt0-clause-empty g c = refl
 pub returns-else-self-gt0-clause-bits : goal.returns-else-self-gt0-clause-bits
 unfolding bits_of_bytes
 returns-else-self-gt0-clause-bits g c =
-    rw (c.new-bytes.ensures, ← c.self.view_is, no_bits c.self.inside.left c.self.inside.value (omega (arith, c.if-self-gt0.false))) refl
+    rw (c.new-bytes.ensures, ← c.self.view_is,
+      no_bits c.self.inside.left c.self.inside.value (omega (arith, c.if-self-gt0.false))) refl
 
 pub returns-else-self-gt0-clause-empty : goal.returns-else-self-gt0-clause-empty
-returns-else-self-gt0-clause-empty g c = rw (← c.self.view_is) (no_bits c.self.inside.left c.self.inside.value (omega (arith, c.if-self-gt0.false)))
+returns-else-self-gt0-clause-empty g c = rw (← c.self.view_is)
+    (no_bits c.self.inside.left c.self.inside.value (omega (arith, c.if-self-gt0.false)))
 
 pub returns-then-self-gt0-clause-places : goal.returns-then-self-gt0-clause-places
 returns-then-self-gt0-clause-places g c pixels is =
