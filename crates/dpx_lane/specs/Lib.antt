@@ -1,1 +1,4 @@
+pub mod Codes
 pub mod Scrambling
+pub mod Sending
+pub mod WordTable

@@ -1,6 +1,21 @@
-//! The lanes of the main link: scrambling, delay and code on the way out, the same undone on the way in, by rows.
+//! The lanes of the main link, row by row: delay, scrambling and code on the way out, the same undone on the way in.
+//!
+//! * `codes`: the code of a symbol in a row
+//! * `scrambler`: the key
+//! * `word_table`, `coder`, `delay`, `lane_tx`: a lane on the way out
+//! * `symbol_table`, `lane_fault`, `lane_rx`: a lane on the way in
+//! * `lane_work`: what a lane's state does to a row
 #![tactic(auto)]
 
+mod codes;
+mod coder;
+mod delay;
+mod lane_tx;
+mod lane_work;
 mod scrambler;
+mod word_table;
 
+pub use codes::{code_of, symbol_of};
+pub use lane_tx::LaneTx;
+pub use lane_work::LaneWork;
 pub use scrambler::Scrambler;
