@@ -1,6 +1,6 @@
 -- What a reading says of the columns, by whether the word stands at minus and at plus.
 use Rattle.std.proofs.Common.{◌≡◌, ◌↔◌, ◌⊎◌, inl, inr, ℕ, Bool, true, false, refl, ap, subst}
-use Rattle.std.specs.Prelude.{Result, Ok, Err, IsOk, IfOk}
+use Rattle.std.specs.Prelude.{Result, Ok, Err, IsOk, IfOk, IfErr}
 use Rattle.std.specs.Bool.{Decides}
 use Rattle.std.proofs.lemmas.Bool.Decides.{not_from_Decides}
 use Rattle.dpx_base.specs.Code.{Codes, StandsIn, next_disparity}
@@ -190,3 +190,23 @@ pub reads_next : (word : ℕ) (rd : Rd) (result : Result (Sym × Rd) CodeBad) �
     → IfOk result (λ read. (read.1 ≡ rd_of next) ⊎ (read.1 ≡ Unknown))
 reads_next word rd result e s plus next a h =
     rw e (second_of word s next (decoded word rd) (read_by rd word s plus next a h))
+
+-- a refusal names the word, and the disparity where that is to blame
+abbrev Refused : (word : ℕ) → Rd → CodeBad → Type 0
+Refused word rd bad = (bad ≡ NotAWord word) ⊎ (bad ≡ WrongColumn word rd)
+
+refusal_by : (rd : Rd) (word : ℕ) (m p : Bool) → IfErr (read_as word rd m p) (Refused word rd)
+refusal_by Minus word true p = tt
+refusal_by Minus word false true = inr refl
+refusal_by Minus word false false = inl refl
+refusal_by Plus word m true = tt
+refusal_by Plus word true false = inr refl
+refusal_by Plus word false false = inl refl
+refusal_by Unknown word true true = tt
+refusal_by Unknown word true false = tt
+refusal_by Unknown word false true = tt
+refusal_by Unknown word false false = inl refl
+
+pub reads_refusal : (word : ℕ) (rd : Rd) (result : Result (Sym × Rd) CodeBad) → result ≡ decoded word rd
+    → IfErr result (λ bad. (bad ≡ NotAWord word) ⊎ (bad ≡ WrongColumn word rd))
+reads_refusal word rd result e = rw e (refusal_by rd word (stands false word) (stands true word))

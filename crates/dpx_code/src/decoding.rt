@@ -1,4 +1,4 @@
-ghost use Rattle.std.specs.Prelude.{◌≡◌, ◌<◌, ◌≤◌, ◌↔◌, ◌⊎◌, Bool, false, true, IfSome, IfNone, IfOk, IsOk, Err};
+ghost use Rattle.std.specs.Prelude.{◌≡◌, ◌<◌, ◌≤◌, ◌↔◌, ◌⊎◌, Bool, false, true, IfSome, IfNone, IfOk, IfErr, IsOk, Err};
 ghost use Rattle.dpx_base.specs.Code.{IsSymbol, Codes, StandsIn};
 ghost use Rattle.dpx_base.specs.declared.sym.Sym.{Sym};
 ghost use Rattle.dpx_code.specs.Back.{data_of, is_candidate_control, candidate_byte};
@@ -97,6 +97,7 @@ pub fn decode(word: u16, rd: Rd) -> Result<(Sym, Rd), CodeBad>
     ensures unknown { IfOk result (λ read. (read.1 ≡ Unknown) ↔ ((rd ≡ Unknown) × StandsIn false word × StandsIn true word)) }
     ensures not_a_word { (result ≡ Err (NotAWord word)) ↔ ((plus : Bool) → StandsIn plus word → ⊥) }
     ensures wrong_column { (result ≡ Err (WrongColumn word rd)) ↔ StandsElsewhere rd word }
+    ensures refusals { IfErr result (λ bad. (bad ≡ NotAWord word) ⊎ (bad ≡ WrongColumn word rd)) }
     ensures computed { result ≡ decoded word rd }
 {
     read_word(word, rd)

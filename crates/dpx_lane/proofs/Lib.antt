@@ -1,8 +1,10 @@
+pub mod BadWords
 pub mod BitNumbers
+pub mod Entries
 pub mod KeyBits
 pub mod KeyBytes
 pub mod Keyeds
 pub mod Keys
-pub mod Entries
+pub mod Receives
 pub mod RowSteps
 pub mod Sends

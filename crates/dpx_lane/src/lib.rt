@@ -10,12 +10,17 @@
 mod codes;
 mod coder;
 mod delay;
+mod lane_fault;
+mod lane_rx;
 mod lane_tx;
 mod lane_work;
 mod scrambler;
+mod symbol_table;
 mod word_table;
 
 pub use codes::{code_of, symbol_of};
+pub use lane_fault::{LaneFault, WordBad};
+pub use lane_rx::LaneRx;
 pub use lane_tx::LaneTx;
 pub use lane_work::LaneWork;
 pub use scrambler::Scrambler;

@@ -1,4 +1,4 @@
-use Rattle.dpx_code.proofs.Readings.{reads_ok, reads_its_symbol, reads_next, reads_unknown, reads_not_a_word, reads_wrong_column}
+use Rattle.dpx_code.proofs.Readings.{reads_ok, reads_its_symbol, reads_next, reads_unknown, reads_not_a_word, reads_wrong_column, reads_refusal}
 use Rattle.dpx_code.proofs.decoding.decode.Goals as goal
 
 pub returns-clause-ok : goal.returns-clause-ok
@@ -18,3 +18,6 @@ returns-clause-not_a_word c = reads_not_a_word c.args.word c.args.rd c.read_word
 
 pub returns-clause-wrong_column : goal.returns-clause-wrong_column
 returns-clause-wrong_column c = reads_wrong_column c.args.word c.args.rd c.read_word.result c.read_word.ensures
+
+pub returns-clause-refusals : goal.returns-clause-refusals
+returns-clause-refusals c = reads_refusal c.args.word c.args.rd c.read_word.result c.read_word.ensures
