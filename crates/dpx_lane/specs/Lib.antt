@@ -5,3 +5,6 @@ pub mod Scrambling
 pub mod Sending
 pub mod SymbolTable
 pub mod WordTable
+pub mod Room
+pub mod Rows
+pub mod Team
