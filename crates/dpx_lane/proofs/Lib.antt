@@ -1,5 +1,6 @@
 pub mod BadWords
 pub mod BitNumbers
+pub mod Bytes
 pub mod Entries
 pub mod KeyBits
 pub mod KeyBytes
