@@ -22,7 +22,7 @@ use Rattle.dpx_code.proofs.Readings.{reads_refusal, reads_not_a_word, reads_wron
 use Rattle.dpx_code.proofs.Small.{coded_small}
 use Rattle.dpx_code.proofs.Tracking.{tracked}
 use Rattle.dpx_lane.specs.Reading.{as_word_bad, read_word, IsReason, IsFault}
-use Rattle.dpx_lane.specs.Receiving.{HasRead, FaultBehind, Ends}
+use Rattle.dpx_lane.specs.Receiving.{HasRead, FaultBehind, Ends, IsReading}
 use Rattle.dpx_lane.specs.declared.lane_fault.LaneFault.{LaneFault}
 use Rattle.dpx_lane.specs.declared.lane_fault.WordBad.{WordBad}
 use Rattle.dpx_lane.specs.declared.lane_fault.WordBad.TheVariants.{Value, Code}
@@ -149,3 +149,28 @@ pub symbols_read : (rd : Rd) (good : List ℕ) (plain : List Sym) → Tracks rd 
 symbols_read rd good plain h k =
     let r = runs rd good h in
     record { from = r.from; coded = map candidate_of good; end = r.end; code = r.code; key = k }
+
+cut_at : (fault : Option LaneFault) (good rest : List ℕ) → Ends fault good rest
+    → (found : LaneFault) → fault ≡ Some found → length good ≡ found.clock
+cut_at None good rest e found is = cc
+cut_at (Some fault) good rest e found is =
+    let same : fault ≡ found = cc in
+    sym (ap (λ f. f.clock) (sym same) ∙ e.clock)
+
+whole_if : (fault : Option LaneFault) (good rest : List ℕ) → Ends fault good rest → fault ≡ None → rest ≡ []
+whole_if None good rest e is = e
+whole_if (Some fault) good rest e is = cc
+
+pub is_reading : (lane : LaneRx) (words left : List ℕ) → HasRead lane words left → IsReading words left lane.fault
+is_reading lane words left h = record {
+  good = h.good;
+  rest = h.rest;
+  plain = h.plain;
+  words_are = h.words_are;
+  left_is = h.left_is;
+  back = h.back;
+  symbols = symbols_read lane.rd h.good h.plain h.tracks h.key;
+  is_fault = fault_is lane words left h;
+  whole = whole_if lane.fault h.good h.rest h.end;
+  cut = cut_at lane.fault h.good h.rest h.end;
+}

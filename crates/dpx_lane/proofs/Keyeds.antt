@@ -1,8 +1,11 @@
 -- Rows with the key on them.
-use Rattle.std.proofs.Common.{◌≡◌, ℕ, zero, suc, ◌<◌, ◌≤◌, ◌+◌, Bool, if◌then◌else◌, List, [], ◌∷◌, ◌++◌, length, take}
+use Rattle.std.proofs.Common.{◌≡◌, ℕ, zero, suc, ◌<◌, ◌≤◌, ◌+◌, Bool, if◌then◌else◌, List, [], ◌∷◌, ◌++◌, length, take, map}
 use Rattle.std.proofs.Common.{refl, sym, ap, subst, ◌∙◌, arith, add-one, inl, inr, length-append, ⊎_elim}
 use Rattle.std.specs.Prelude.{slice_index_or}
+use Rattle.std.specs.List.{range_with_len}
 use Rattle.std.proofs.lemmas.Bool.{cases_lt}
+use Rattle.std.proofs.lemmas.List.{get_or_default}
+use Rattle.std.proofs.lemmas.List.FromFn.{get_or-map-range_with_len, length-map-range_with_len}
 use Rattle.std.proofs.lemmas.List.{take_more, take_all, take-append-le, get_or_append_left, get_or_push, length_push, ext_get_or}
 use Rattle.std.proofs.lemmas.List.{take-take, get_or-take, length-take-le}
 use Rattle.std.proofs.Math.Seq.{take-append_seam}
@@ -91,3 +94,18 @@ keyed_front n row keyed l h = record {
       let c = take-take k n row (omega (arith, j)) in
       rw (a, b, c) (h.at k d (omega (arith, j, l)));
 }
+
+-- each row has one
+pub keyed_there : (row : List Sym) → (keyed : List Sym) × Keyed row keyed
+keyed_there row =
+    let at : ℕ → Sym = λ k. scrambled (since_reset (take k row)) (slice_index_or row k fill) in
+    let n = length row in
+    let keyed = map at (range_with_len 0 n) in (
+      keyed,
+      record {
+        size = length-map-range_with_len at 0 n;
+        at = λ k d l.
+            let e : slice_index_or row k fill ≡ slice_index_or row k d = get_or_default row k fill d l in
+            get_or-map-range_with_len at 0 n k k d l (omega arith) ∙ ap (scrambled (since_reset (take k row))) e;
+      },
+    )

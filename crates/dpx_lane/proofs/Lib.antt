@@ -9,3 +9,5 @@ pub mod Keys
 pub mod Receives
 pub mod RowSteps
 pub mod Sends
+pub mod Teams
+pub mod WholeRows
