@@ -1,5 +1,6 @@
 -- A lane's words are those of its row.
-use Rattle.std.proofs.Common.{◌≡◌, ℕ, zero, suc, ◌<◌, ◌≤◌, ◌+◌, ◌-◌, ◌*◌, Bool, false, List, [], ◌∷◌, ◌++◌, length, take, map, replicate}
+use Rattle.std.proofs.Common.{◌≡◌, ℕ, zero, suc, ◌<◌, ◌≤◌, ◌+◌, ◌-◌, ◌*◌, Bool, false, List, [], ◌∷◌, ◌++◌, length}
+use Rattle.std.proofs.Common.{take, map, replicate}
 use Rattle.std.proofs.Common.{refl, sym, ap, subst, ◌∙◌, arith, append_assoc, length-append}
 use Rattle.std.specs.Prelude.{slice_index_or}
 use Rattle.std.proofs.Math.Seq.{take-append_seam}
@@ -25,14 +26,14 @@ sent_so_far lane lag codes words h =
     let sent = map symbol_of h.sent in
     let waiting = map symbol_of lane.waiting.items in
     let all : replicate lag fill ++ symbols ≡ sent ++ waiting =
-      ap (λ xs. xs ++ symbols) (sym (fills_are lag))
-      ∙ (sym (map-append symbol_of (replicate lag 0) codes)
-      ∙ (ap (map symbol_of) h.parts ∙ map-append symbol_of h.sent lane.waiting.items)) in
+    ap (λ xs. xs ++ symbols) (sym (fills_are lag))
+    ∙ (sym (map-append symbol_of (replicate lag 0) codes)
+    ∙ (ap (map symbol_of) h.parts ∙ map-append symbol_of h.sent lane.waiting.items)) in
     let size : length symbols ≡ length sent =
-      length-map codes symbol_of ∙ (sym h.size ∙ sym (length-map h.sent symbol_of)) in
+    length-map codes symbol_of ∙ (sym h.size ∙ sym (length-map h.sent symbol_of)) in
     let front : take (length symbols) (replicate lag fill ++ symbols) ≡ sent =
-      ap (λ n. take n (replicate lag fill ++ symbols)) size
-      ∙ (ap (take (length sent)) all ∙ take-append_seam sent waiting) in
+    ap (λ n. take n (replicate lag fill ++ symbols)) size
+    ∙ (ap (take (length sent)) all ∙ take-append_seam sent waiting) in
     record {
       keyed = h.coded.keyed;
       end = lane.coder.plus;
@@ -48,17 +49,25 @@ lag_row n m symbols h =
     let front : List Sym = replicate n fill ++ (symbols ++ replicate (m - n) fill) in
     let f : ℕ → List Sym = λ k. replicate k fill in
     let parts : replicate m fill ≡ replicate (m - n) fill ++ replicate n fill =
-      ap f {x = m} {y = m - n + n} (omega (arith, h)) ∙ sym (replicate-append-replicate (m - n) n fill) in
+    ap f {x = m} {y = m - n + n} (omega (arith, h)) ∙ sym (replicate-append-replicate (m - n) n fill) in
     let g : List Sym → List Sym = λ l. replicate n fill ++ (symbols ++ l) in
     let i : List Sym → List Sym = λ l. replicate n fill ++ l in
     let whole : replicate n fill ++ (symbols ++ replicate m fill) ≡ front ++ replicate n fill =
-      ap g parts
-      ∙ (ap i (sym (append_assoc symbols (replicate (m - n) fill) (replicate n fill)))
-      ∙ sym (append_assoc (replicate n fill) (symbols ++ replicate (m - n) fill) (replicate n fill))) in
+    ap g parts
+    ∙ (ap i (sym (append_assoc symbols (replicate (m - n) fill) (replicate n fill)))
+    ∙ sym (append_assoc (replicate n fill) (symbols ++ replicate (m - n) fill) (replicate n fill))) in
     let long = length-append (replicate n fill) (symbols ++ replicate (m - n) fill) in
     let size : length (symbols ++ replicate m fill) ≡ length front =
-      omega (arith, h, long, length-append symbols (replicate m fill), length-append symbols (replicate (m - n) fill),
-        length-replicate n fill, length-replicate m fill, length-replicate (m - n) fill) in
+    omega (
+      arith,
+      h,
+      long,
+      length-append symbols (replicate m fill),
+      length-append symbols (replicate (m - n) fill),
+      length-replicate n fill,
+      length-replicate m fill,
+      length-replicate (m - n) fill,
+    ) in
     let t : ℕ → List Sym = λ k. take k (replicate n fill ++ (symbols ++ replicate m fill)) in
     ap t size ∙ (ap (take (length front)) whole ∙ take-append_seam front (replicate n fill))
 

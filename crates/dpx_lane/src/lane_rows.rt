@@ -1,9 +1,9 @@
 ghost use Rattle.std.specs.Prelude.{◌≡◌, ◌<◌, ◌≤◌, ◌+◌, ◌*◌, ◌%◌, ◌/◌, [], ◌∷◌, ◌++◌};
-ghost use Rattle.std.specs.Prelude.{length, replicate, IfOk, vec_len, vec_capacity};
+ghost use Rattle.std.specs.Prelude.{length, IfOk, vec_len, vec_capacity};
 ghost use Rattle.dpx_base.specs.Capture.{word_bytes, words_in};
 ghost use Rattle.dpx_base.specs.Lanes.{count_of};
 ghost use Rattle.dpx_lane.specs.Codes.{code_of};
-ghost use Rattle.dpx_lane.specs.Rows.{entry, lane_by_lane, clock_words};
+ghost use Rattle.dpx_lane.specs.Rows.{entry, lane_by_lane, clock_words, no_rows};
 
 use crate::code_of;
 use crate::words::{put_word, word_of};
@@ -30,7 +30,11 @@ impl Model for LaneRows {
 
     ghost Value = { RowsFacts };
 
-    ghost view = { λ r. record { lanes = r.lanes; rows = in_use r.lanes r.first.items r.second.items r.third.items r.fourth.items; clocks = length r.first.items } };
+    ghost view = { λ r. record {
+      lanes = r.lanes;
+      rows = in_use r.lanes r.first.items r.second.items r.third.items r.fourth.items;
+      clocks = length r.first.items;
+    } };
 
     ghost invariant = { HasRoom };
 }
@@ -46,7 +50,7 @@ fn put(row: &mut Vec<u16>, entry: u16)
 impl LaneRows {
     /// Takes room for 8,192 clocks, and holds none.
     pub fn new(alloc: Global, lanes: Lanes) -> Result<LaneRows, Memory>
-        ensures { IfOk result (λ rows. rows ≡ record { lanes = lanes; rows = replicate (count_of lanes) []; clocks = 0 }) }
+        ensures { IfOk result (λ rows. rows ≡ no_rows lanes) }
     {
         Ok(LaneRows {
             lanes,
@@ -72,7 +76,7 @@ impl LaneRows {
     }
 
     pub fn clear(&mut self)
-        ensures { self.new ≡ record { lanes = self.old.lanes; rows = replicate (count_of self.old.lanes) []; clocks = 0 } }
+        ensures { self.new ≡ no_rows self.old.lanes }
     {
         self.first.clear();
         self.second.clear();
@@ -98,7 +102,11 @@ impl LaneRows {
     pub fn push_set(&mut self, set: &LaneSet)
         requires room { self.old.clocks < 8192 }
         requires lanes { length set.now ≡ count_of self.old.lanes }
-        ensures { self.new ≡ record { lanes = self.old.lanes; rows = lane_by_lane (λ row sym. row ++ code_of sym ∷ []) self.old.rows set.now; clocks = self.old.clocks + 1 } }
+        ensures { self.new ≡ record {
+          lanes = self.old.lanes;
+          rows = lane_by_lane (λ row sym. row ++ code_of sym ∷ []) self.old.rows set.now;
+          clocks = self.old.clocks + 1;
+        } }
     {
         let first = code_of(set.get(0));
         let (second, third, fourth) = match self.lanes {
@@ -120,7 +128,11 @@ impl LaneRows {
     fn push_words(&mut self, bytes: &[u8])
         requires room { self.old.clocks < 8192 }
         requires size { length bytes.now ≡ 2 * count_of self.old.lanes }
-        ensures { self.new ≡ record { lanes = self.old.lanes; rows = lane_by_lane (λ row word. row ++ word ∷ []) self.old.rows (clock_words self.old.lanes bytes.now); clocks = self.old.clocks + 1 } }
+        ensures { self.new ≡ record {
+          lanes = self.old.lanes;
+          rows = lane_by_lane (λ row word. row ++ word ∷ []) self.old.rows (clock_words self.old.lanes bytes.now);
+          clocks = self.old.clocks + 1;
+        } }
     {
         let first = word_of(bytes, 0);
         let (second, third, fourth) = match self.lanes {
@@ -149,7 +161,11 @@ impl LaneRows {
     pub fn read_words(&mut self, bytes: &[u8])
         requires whole { length bytes.now % (2 * count_of self.old.lanes) ≡ 0 }
         requires few { length bytes.now ≤ 2 * count_of self.old.lanes * 8192 }
-        ensures { self.new ≡ record { lanes = self.old.lanes; rows = words_in (count_of self.old.lanes) (length bytes.now / (2 * count_of self.old.lanes)) bytes.now; clocks = length bytes.now / (2 * count_of self.old.lanes) } }
+        ensures { self.new ≡ record {
+          lanes = self.old.lanes;
+          rows = words_in (count_of self.old.lanes) (length bytes.now / (2 * count_of self.old.lanes)) bytes.now;
+          clocks = length bytes.now / (2 * count_of self.old.lanes);
+        } }
     {
         let size = 2 * usize::from(self.lanes.count());
         self.clear();

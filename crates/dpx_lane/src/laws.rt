@@ -21,18 +21,13 @@ pub fn the_key_comes_off()
 /// What a lane on the way out left are the first words of its row. With fills behind its symbols, as many as the last
 /// lane lags, they are all of them. There is one list of such words.
 pub fn lanes_send_their_rows()
-    ensures so_far {
-        (lane : LaneTx) (lag : ℕ) (codes words : List ℕ) → HasSent lane lag codes words
-        → IsSent lag (map symbol_of codes) words
-    }
-    ensures whole {
-        (lanes number : ℕ) (symbols : List Sym) (words : List ℕ) → number < lanes
-        → IsSent (2 * number) (symbols ++ replicate (2 * (lanes - 1)) fill) words → LaneWords lanes number symbols words
-    }
-    ensures once {
-        (lanes : ℕ) (sets : List (List Sym)) (one other : List (List ℕ))
-        → SentWords lanes sets one → SentWords lanes sets other → one ≡ other
-    }
+    ensures so_far { (lane : LaneTx) (lag : ℕ) (codes words : List ℕ) → HasSent lane lag codes words
+        → IsSent lag (map symbol_of codes) words }
+    ensures whole { (lanes number : ℕ) (symbols : List Sym) (words : List ℕ) → number < lanes
+        → IsSent (2 * number) (symbols ++ replicate (2 * (lanes - 1)) fill) words
+        → LaneWords lanes number symbols words }
+    ensures once { (lanes : ℕ) (sets : List (List Sym)) (one other : List (List ℕ))
+        → SentWords lanes sets one → SentWords lanes sets other → one ≡ other }
 {}
 
 /// What a lane on the way in took and left is a reading of its words.
@@ -42,12 +37,8 @@ pub fn lanes_read_their_words()
 
 /// A team's run leads from lanes that stand for lists to lanes that stand for the longer lists.
 pub fn teams_go_on()
-    ensures sent {
-        (old new : List LaneTx) (codes words rows outs : List (List ℕ)) → LanesDo SendsRow old rows new outs
-        → TeamSent 0 old codes words → TeamSent 0 new (joined codes rows) (joined words outs)
-    }
-    ensures read {
-        (old new : List LaneRx) (words left rows outs : List (List ℕ)) → LanesDo ReadsRow old rows new outs
-        → TeamRead old words left → TeamRead new (joined words rows) (joined left outs)
-    }
+    ensures sent { (old new : List LaneTx) (codes words rows outs : List (List ℕ)) → LanesDo SendsRow old rows new outs
+        → TeamSent 0 old codes words → TeamSent 0 new (joined codes rows) (joined words outs) }
+    ensures read { (old new : List LaneRx) (words left rows outs : List (List ℕ)) → LanesDo ReadsRow old rows new outs
+        → TeamRead old words left → TeamRead new (joined words rows) (joined left outs) }
 {}

@@ -10,8 +10,8 @@
 //! * `workers`, `lane_team`: the lanes' states, run on their rows by one worker or one a lane
 #![tactic(auto)]
 
-mod codes;
 mod coder;
+mod codes;
 mod delay;
 mod lane_fault;
 mod lane_rows;
