@@ -1,6 +1,6 @@
 use Rattle.std.proofs.Common.{◌≡◌, ◌<◌, ◌+◌, ◌-◌, ◌∙◌, ℕ, length, ap, arith}
 use Rattle.std.proofs.lemmas.Bool.{leb-true, le-leb}
-use Rattle.dpx_base.specs.Lanes.{count_of}
+use Rattle.dpx_base.specs.Lanes.{lanes_count}
 use Rattle.dpx_base.specs.Plan.{timing}
 use Rattle.dpx_timing.proofs.Sizes.{plan_possible}
 use Rattle.dpx_buffer.specs.Buffer.{made_whole}
@@ -28,7 +28,7 @@ returns c =
       rw (column, c.len.ensures.length) at c.bytes_whole.ensures.value,
       rw column at c.bytes_whole-2.ensures.value,
     ) in
-    let some : 0 < count_of c.args.self.now.plan.link.lanes =
+    let some : 0 < lanes_count c.args.self.now.plan.link.lanes =
     (plan_possible c.args.self.now.plan c.reached.ensures.planned).lanes_from in (
       λ fits lane few. omega (arith, leb-true _ _ fits, c.waiting.ensures.each lane few, made),
       λ room. le-leb _ _ (omega (arith, room 0 some, c.waiting.ensures.each 0 some, made)),
