@@ -1,4 +1,4 @@
-pub mod Asks
+pub mod AsksInTurn
 pub mod Decided
 pub mod Parts
 pub mod Suffices

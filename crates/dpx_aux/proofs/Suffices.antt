@@ -1,8 +1,8 @@
 -- How many answers suffice for a part of a conversation.
-use Rattle.std.proofs.Common.{◌≡◌, ℕ, zero, suc, ◌+◌, ◌<◌, ◌≤◌, Bool, true, false, List, [], ◌∷◌, ◌++◌, length, refl, sym, ap}
+use Rattle.std.proofs.Common.{◌≡◌, ℕ, zero, suc, ◌+◌, ◌≤◌, Bool, true, false, List, [], ◌∷◌, ◌++◌, length, refl}
+use Rattle.std.proofs.Common.{sym, ap}
 use Rattle.std.proofs.Common.{◌∙◌, subst, arith, append_assoc, length-append, Result, Ok, Err, MatchResult}
 use Rattle.std.specs.List.{AllByRecursion}
-use Rattle.std.proofs.lemmas.List.{append-nil}
 use Rattle.dpx_base.specs.declared.aux_port.Answer.{Answer}
 use Rattle.dpx_base.specs.declared.aux_port.Entry.{Entry}
 use Rattle.dpx_base.specs.declared.aux_port.Entry.TheVariants.{Waited}
@@ -73,7 +73,7 @@ few_joined m n front back a b =
 next_suffices : {A B E : Type 0} (n : ℕ) (next : A → Result B E → List Entry → Type 0)
     → ((value : A) → Suffices n (next value)) → (middle : Result A E)
     → Suffices n (λ (given : Result B E) (back : List Entry).
-      MatchResult middle (λ value. next value given back) (λ error. (given ≡ Err error) × (back ≡ [])))
+    MatchResult middle (λ value. next value given back) (λ error. (given ≡ Err error) × (back ≡ [])))
 next_suffices n next s (Ok value) answers enough = s value answers enough
 next_suffices n next s (Err error) answers enough = record {
   given = Err error;
@@ -202,7 +202,8 @@ transaction_suffices request answers enough =
         few = omega (arith, e.few);
         in_vain = e.in_vain;
         asked = refl;
-        ends = subst (λ (n : ℕ). EndsAs (address_of request) n (heard_from request e.last) e.given) (omega arith) e.ends;
+        ends = subst (λ (n : ℕ). EndsAs (address_of request) n (heard_from request e.last) e.given)
+            (omega arith) e.ends;
       };
       begins = e.begins ∙ sym (ap (λ all. all ++ e.rest) asked ∙ append_assoc e.tried (e.last ∷ []) e.rest);
       few = omega (arith, ap length asked, length-append e.tried (e.last ∷ []), e.few);

@@ -1,6 +1,7 @@
 -- The parts that an AUX history is made of: this project's own. A part relates what a call gives to the entries that
 -- it adds to the history. `do` puts parts one behind the other; the first error is the result, and nothing follows it.
-use Rattle.std.specs.Prelude.{◌≡◌, ◌≤◌, ℕ, length, Bool, true, false, List, [], ◌∷◌, ◌++◌, Result, Ok, Err, MatchResult, ⊤}
+use Rattle.std.specs.Prelude.{◌≡◌, ◌≤◌, ℕ, length, Bool, true, false, List, [], ◌∷◌, ◌++◌, Result, Ok, Err, MatchResult}
+use Rattle.std.specs.Prelude.{⊤}
 use Rattle.dpx_base.specs.declared.aux_port.Answer.{Answer}
 use Rattle.dpx_base.specs.declared.aux_port.Entry.{Entry}
 use Rattle.dpx_base.specs.declared.aux_port.Entry.TheVariants.{Waited}

@@ -1,5 +1,6 @@
 -- The answer of a modelled sink at a place, by what was asked before.
-use Rattle.std.proofs.Common.{◌≡◌, ℕ, ◌+◌, ◌%◌, ◌<◌, Bool, true, false, nat_lt, if◌then◌else◌, List, [], ◌∷◌, ◌++◌, length}
+use Rattle.std.proofs.Common.{◌≡◌, ℕ, ◌+◌, ◌%◌, ◌<◌, Bool, true, false, nat_lt, if◌then◌else◌, List, [], ◌∷◌, ◌++◌}
+use Rattle.std.proofs.Common.{length}
 use Rattle.std.proofs.Common.{get_or, refl, sym, ap, ◌∙◌, subst, arith, Result, Ok, Err}
 use Rattle.std.specs.Prelude.{◌↔◌}
 use Rattle.std.proofs.lemmas.Grind.{common_steps}
@@ -9,7 +10,7 @@ use Rattle.dpx_aux.specs.declared.request.Request.{Request}
 use Rattle.dpx_aux.specs.Request.{read_request}
 use Rattle.dpx_dpcd.specs.Laws.{one_if_request, requests_among, DefersByPosition, IsSilentElsewhere}
 use Rattle.dpx_dpcd.specs.RegFile.{SinkFacts, brought}
-use Rattle.dpx_dpcd.specs.SinkPlan.{SinkState, new_sink, is_deferred, sink_answer, sink_answers, after_request}
+use Rattle.dpx_dpcd.specs.SinkPlan.{SinkState, new_sink, sink_answer, sink_answers, after_request}
 
 -- a request is counted
 counted : (defers : ℕ) (state : SinkState) (read : Result Request AuxBad)

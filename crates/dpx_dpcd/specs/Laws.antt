@@ -24,7 +24,7 @@ DefersByPosition =
     (caps extended : List ℕ) (defers : ℕ) (channel : List CellFacts) (before after : List (List ℕ)) (bytes : List ℕ)
     (request : Request) → read_request bytes ≡ Ok request
     → (get_or (planned (Model caps extended defers channel) (before ++ bytes ∷ after)) (length before) Silent
-      ≡ Bytes (0x20 ∷ [])) ↔ (requests_among before % (defers + 1) < defers)
+    ≡ Bytes (0x20 ∷ [])) ↔ (requests_among before % (defers + 1) < defers)
 
 -- bytes that are no request get silence
 abbrev pub IsSilentElsewhere : Type 0

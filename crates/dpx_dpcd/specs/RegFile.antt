@@ -23,17 +23,17 @@ pub record SinkFacts : Type 0 where
   pub channel : List CellFacts
 
 -- the address is one of so many from the first on
-abbrev pub is_among : ℕ → ℕ → ℕ → Bool
-is_among first count address = nat_le first address && nat_lt address (first + count)
+abbrev pub is_in_run : ℕ → ℕ → ℕ → Bool
+is_in_run first count address = nat_le first address && nat_lt address (first + count)
 
 -- the link's registers, 00100 to 00108, and power, 00600
 abbrev pub is_writable : ℕ → Bool
-is_writable address = is_among link_bw_set 9 address || (address == set_power)
+is_writable address = is_in_run link_bw_set 9 address || (address == set_power)
 
 -- registers after these bytes were written from the first address on
 unfoldable pub written : (ℕ → ℕ) → ℕ → List ℕ → ℕ → ℕ
 written registers first bytes address =
-    if is_writable address && is_among first (length bytes) address then slice_index bytes (address - first)
+    if is_writable address && is_in_run first (length bytes) address then slice_index bytes (address - first)
     else registers address
 
 -- a rate with this code
@@ -56,7 +56,8 @@ is_recovered channel registers rate lane =
 -- It equalises where it recovers, its cell can, and the pattern sent, bits 3:0 of 00102, is not TPS1.
 unfoldable pub is_equalised : List CellFacts → (ℕ → ℕ) → Rate → ℕ → Bool
 is_equalised channel registers rate lane =
-    is_recovered channel registers rate lane && (channel_cell channel rate lane).eq && not (registers training_pattern_set % 16 == 1)
+    is_recovered channel registers rate lane && (channel_cell channel rate lane).eq && not
+    (registers training_pattern_set % 16 == 1)
 
 -- bit 0: recovered; bits 1 and 2: equalised and locked to the symbols
 unfoldable pub lane_status : List CellFacts → (ℕ → ℕ) → Rate → ℕ → ℕ
@@ -102,10 +103,10 @@ status_byte channel registers address =
 -- what a read shows at an address
 unfoldable pub shown : SinkFacts → (ℕ → ℕ) → ℕ → ℕ
 shown sink registers address =
-    if is_among dpcd_rev 16 address then slice_index sink.caps address
-    else if is_among dp13_dpcd_rev 16 address then slice_index sink.extended (address - dp13_dpcd_rev)
+    if is_in_run dpcd_rev 16 address then slice_index sink.caps address
+    else if is_in_run dp13_dpcd_rev 16 address then slice_index sink.extended (address - dp13_dpcd_rev)
     else if is_writable address then registers address
-    else if is_among lane0_1_status 6 address then status_byte sink.channel registers address
+    else if is_in_run lane0_1_status 6 address then status_byte sink.channel registers address
     else 0
 
 -- what a request's acknowledgement brings: a read's bytes, address by address
@@ -119,12 +120,12 @@ registers_after (Read address count) registers = registers
 registers_after (Write address bytes) registers = written registers address bytes
 
 -- what a register file was made with
-abbrev pub facts_of : RegFile → SinkFacts
-facts_of file = record { caps = file.caps; extended = file.extended; channel = file.channel }
+abbrev pub sink_facts : RegFile → SinkFacts
+sink_facts file = record { caps = file.caps; extended = file.extended; channel = file.channel }
 
 -- what was written to a register file
 unfoldable pub registers_of : RegFile → ℕ → ℕ
 registers_of file address =
-    if is_among link_bw_set 9 address then slice_index file.link (address - link_bw_set)
+    if is_in_run link_bw_set 9 address then slice_index file.link (address - link_bw_set)
     else if address == set_power then file.power
     else 0

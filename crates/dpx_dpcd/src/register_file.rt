@@ -3,7 +3,7 @@ ghost use Rattle.std.specs.Prelude.{slice_index};
 ghost use Rattle.std.specs.List.{range_with_len};
 ghost use Rattle.dpx_base.specs.Lanes.{every_lane};
 ghost use Rattle.dpx_aux.specs.Request.{IsValid};
-ghost use Rattle.dpx_dpcd.specs.RegFile.{facts_of, registers_of, brought, registers_after, written, is_writable};
+ghost use Rattle.dpx_dpcd.specs.RegFile.{sink_facts, registers_of, brought, registers_after, written, is_writable};
 ghost use Rattle.dpx_dpcd.specs.RegFile.{shown, status_byte, link_status, bits_in_use, lane_pair, lane_status};
 ghost use Rattle.dpx_dpcd.specs.RegFile.{lane_request, is_recovered, is_equalised, rate_coded};
 ghost use Rattle.dpx_dpcd.specs.RegisterMap.{link_bw_set};
@@ -34,7 +34,7 @@ impl RegFile {
     /// Registers of a sink with these capabilities, at 00000 and at 02200, and this channel.
     #[tactic(auto, unfolding(crate::specs::RegFile::registers_of))]
     pub fn new(caps: [u8; 16], extended: [u8; 16], channel: Channel) -> RegFile
-        ensures facts { facts_of result ≡ record { caps = caps; extended = extended; channel = channel } }
+        ensures facts { sink_facts result ≡ record { caps = caps; extended = extended; channel = channel } }
         ensures registers { (address : ℕ) → registers_of result address ≡ 0 }
     {
         RegFile {
@@ -50,10 +50,10 @@ impl RegFile {
     /// and at 00600 is ignored; 00 is read where neither capabilities, status nor writes have a byte.
     pub fn answer(&mut self, request: &Request) -> Reply
         requires { IsValid request.now }
-        ensures reply { result ≡ Reply.Ack (brought (facts_of self.old) (registers_of self.old) request.now) }
+        ensures reply { result ≡ Reply.Ack (brought (sink_facts self.old) (registers_of self.old) request.now) }
         ensures registers { (address : ℕ) →
             registers_of self.new address ≡ registers_after request.now (registers_of self.old) address }
-        ensures facts { facts_of self.new ≡ facts_of self.old }
+        ensures facts { sink_facts self.new ≡ sink_facts self.old }
     {
         match request {
             Request::Read { address, length } => Reply::Ack(self.read(*address, *length)),
@@ -67,7 +67,7 @@ impl RegFile {
     fn read(&self, address: u32, length: u8) -> Data16
         requires few { length ≤ 16 }
         requires within { address + length ≤ 2 ^ 20 }
-        ensures { result ≡ map (shown (facts_of self.now) (registers_of self.now)) (range_with_len address length) }
+        ensures { result ≡ map (shown (sink_facts self.now) (registers_of self.now)) (range_with_len address length) }
     {
         let mut bytes = [0; 16];
         for place in 0..length {
@@ -81,7 +81,7 @@ impl RegFile {
         requires within { address + length bytes.now ≤ 2 ^ 20 }
         ensures registers { (x : ℕ) →
             registers_of self.new x ≡ written (registers_of self.old) address bytes.now x }
-        ensures facts { facts_of self.new ≡ facts_of self.old }
+        ensures facts { sink_facts self.new ≡ sink_facts self.old }
     {
         for (place, byte) in bytes.iter().enumerate() {
             self.put(address + place as u32, *byte);
@@ -92,7 +92,7 @@ impl RegFile {
     fn put(&mut self, address: u32, byte: u8)
         ensures registers { (x : ℕ) →
             registers_of self.new x ≡ (if (x == address) && is_writable x then byte else registers_of self.old x) }
-        ensures facts { facts_of self.new ≡ facts_of self.old }
+        ensures facts { sink_facts self.new ≡ sink_facts self.old }
     {
         match address {
             LINK_BW_SET..=MAIN_LINK_CHANNEL_CODING_SET => {
@@ -106,7 +106,7 @@ impl RegFile {
     /// What a read shows at the address.
     #[tactic(auto, unfolding(crate::specs::RegFile::shown, crate::specs::RegFile::registers_of))]
     fn shown(&self, address: u32) -> u8
-        ensures { result ≡ shown (facts_of self.now) (registers_of self.now) address }
+        ensures { result ≡ shown (sink_facts self.now) (registers_of self.now) address }
     {
         match address {
             DPCD_REV..=CAPS_END => self.caps[address as usize],

@@ -39,7 +39,7 @@ use Rattle.dpx_link.specs.declared.train_end.Verdict.TheVariants as verdict
 use Rattle.dpx_link.specs.Attempt.{Attempt, PhasesInTurn, AfterRecovery, Equalises, equalised}
 use Rattle.dpx_link.specs.Fallback.{next_of, fall_back}
 use Rattle.dpx_link.specs.LastStatus.{TrainingIsRead}
-use Rattle.dpx_link.specs.Training.{Capable, Never, Attempts, AfterAttempt, TrainsWith, TrainOutcome, Training}
+use Rattle.dpx_link.specs.Training.{Capable, Attempts, AfterAttempt, TrainsWith, TrainOutcome, Training}
 use Rattle.dpx_link.specs.Training.{attempts_at_most, end_of}
 
 -- entries in front change nothing
@@ -103,8 +103,8 @@ read_with_before lanes drive status history back l no_read no_write = record {
   joined = ap (λ (entries : List Entry). entries ++ back) l.joined
       ∙ append_assoc l.before (l.write ++ (l.read ++ l.after)) back
       ∙ ap (λ (entries : List Entry). l.before ++ entries)
-          (append_assoc l.write (l.read ++ l.after) back
-          ∙ ap (λ (entries : List Entry). l.write ++ entries) (append_assoc l.read l.after back));
+      (append_assoc l.write (l.read ++ l.after) back
+      ∙ ap (λ (entries : List Entry). l.write ++ entries) (append_assoc l.read l.after back));
   written = l.written;
   given = l.given;
   unread = AsksNone-append (reads_of lane0_1_status 6) l.after back l.unread no_read;
@@ -141,7 +141,8 @@ verdict_behind (verdict.CapsRefused why) front history l = tt
 
 given_behind : {A E : Type 0} (Is : A → List Entry → Type 0)
     → ((value : A) (front history : List Entry) → Is value history → Is value (front ++ history))
-    → (given : Result A E) (front history : List Entry) → IsReadIn Is given history → IsReadIn Is given (front ++ history)
+    → (given : Result A E) (front history : List Entry) → IsReadIn Is given history
+    → IsReadIn Is given (front ++ history)
 given_behind Is behind (Ok value) front history l = behind value front history l
 given_behind Is behind (Err error) front history l = tt
 
@@ -187,7 +188,7 @@ ends_there : (lanes : Lanes) (value : Result AttemptEnd AuxEnd) (front : List En
     → Ends value given back → IsReadIn (AttemptIsRead lanes) given (front ++ back)
 ends_there lanes value front l given back e =
     let joined : front ≡ front ++ back =
-        sym (append-nil front) ∙ ap (λ (entries : List Entry). front ++ entries) (sym e.nothing) in
+    sym (append-nil front) ∙ ap (λ (entries : List Entry). front ++ entries) (sym e.nothing) in
     subst (λ (r : Result AttemptEnd AuxEnd). IsReadIn (AttemptIsRead lanes) r (front ++ back)) (sym e.same)
     (subst (IsReadIn (AttemptIsRead lanes) value) joined l)
 
@@ -238,7 +239,7 @@ after_attempt_read more is (Try link) given front back l a =
     given_behind VerdictIsRead verdict_behind given front back (is link given back a)
 after_attempt_read more is (Stop end) given front back l a =
     let joined : front ≡ front ++ back =
-        sym (append-nil front) ∙ ap (λ (entries : List Entry). front ++ entries) (sym a.nothing) in
+    sym (append-nil front) ∙ ap (λ (entries : List Entry). front ++ entries) (sym a.nothing) in
     subst (λ (r : Result Verdict AuxEnd). IsReadIn VerdictIsRead r (front ++ back)) (sym a.same)
     (subst (VerdictIsRead end) joined l)
 
@@ -248,7 +249,7 @@ tried_read : (left : ℕ) (caps : Caps) (first link : Link)
     → (middle : Result AttemptEnd AuxEnd) (given : Result Verdict AuxEnd) (front back : List Entry)
     → IsReadIn (AttemptIsRead link.lanes) middle front
     → MatchResult middle (λ end. AfterAttempt (Attempts left caps first) (next_of first link end) given back)
-      (λ error. (given ≡ Err error) × (back ≡ []))
+    (λ error. (given ≡ Err error) × (back ≡ []))
     → IsReadIn VerdictIsRead given (front ++ back)
 tried_read left caps first link is (Ok end) given front back l on =
     after_attempt_read (Attempts left caps first) is (next_of first link end) given front back
@@ -274,7 +275,7 @@ asked_none test request (answer ∷ answers) none = (none, asked_none test reque
 written_none : (test : Result Request AuxBad → Bool) (middle : Result (List ℕ) AuxEnd) (given : Result ⊤ AuxEnd)
     (back : List Entry)
     → MatchResult middle (λ nothing. Ends {R = Result ⊤ AuxEnd} (Ok tt) given back)
-      (λ error. (given ≡ Err error) × (back ≡ []))
+    (λ error. (given ≡ Err error) × (back ≡ []))
     → AsksNone test back
 written_none test (Ok nothing) given back on = subst (AsksNone test) (sym on.nothing) tt
 written_none test (Err error) given back on = subst (AsksNone test) (sym on.1) tt
@@ -302,10 +303,11 @@ closed_read : (end : Verdict) (middle : Result ⊤ AuxEnd) (given : Result Verdi
     → IsReadIn VerdictIsRead given (front ++ (write ++ back))
 closed_read end (Ok closed) given front write back l w on =
     let no_read = writes_none (reads_of lane0_1_status 6) training_pattern_set (0x00 ∷ []) refl (Ok closed) write w in
-    let no_write = writes_none (writes_of training_lane0_set 4) training_pattern_set (0x00 ∷ []) refl (Ok closed) write w in
+    let no_write = writes_none (writes_of training_lane0_set 4) training_pattern_set (0x00 ∷ []) refl
+    (Ok closed) write w in
     let joined : front ++ write ≡ front ++ (write ++ back) =
-        ap (λ (entries : List Entry). front ++ entries)
-        (sym (append-nil write) ∙ ap (λ (entries : List Entry). write ++ entries) (sym on.nothing)) in
+    ap (λ (entries : List Entry). front ++ entries)
+    (sym (append-nil write) ∙ ap (λ (entries : List Entry). write ++ entries) (sym on.nothing)) in
     subst (λ (r : Result Verdict AuxEnd). IsReadIn VerdictIsRead r (front ++ (write ++ back))) (sym on.same)
     (subst (VerdictIsRead end) joined (verdict_before end front write l no_read no_write))
 closed_read end (Err error) given front write back l w on =
@@ -315,8 +317,8 @@ closed_read end (Err error) given front write back l w on =
 ended_read : (middle : Result Verdict AuxEnd) (given : Result Verdict AuxEnd) (front back : List Entry)
     → IsReadIn VerdictIsRead middle front
     → MatchResult middle
-      (λ end. (Writes training_pattern_set (0x00 ∷ []) >>= λ closed. Ends (Ok end)) given back)
-      (λ error. (given ≡ Err error) × (back ≡ []))
+    (λ end. (Writes training_pattern_set (0x00 ∷ []) >>= λ closed. Ends (Ok end)) given back)
+    (λ error. (given ≡ Err error) × (back ≡ []))
     → IsReadIn VerdictIsRead given (front ++ back)
 ended_read (Ok end) given front back l on =
     subst (λ (entries : List Entry). IsReadIn VerdictIsRead given (front ++ entries)) (sym on.joined)

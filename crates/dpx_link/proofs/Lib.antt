@@ -1,6 +1,6 @@
 pub mod Bounded
 pub mod Decided
-pub mod Good
+pub mod TrainedIsDone
 pub mod AttemptsMade
 pub mod Ranks
 pub mod LastStatus

@@ -1,6 +1,6 @@
 -- How many configurations may come after one.
-use Rattle.std.proofs.Common.{◌≡◌, ℕ, ◌+◌, ◌*◌, ◌<◌, ◌≤◌, Bool, arith, Option, Some, None}
-use Rattle.std.specs.Prelude.{⊤, IfSome}
+use Rattle.std.proofs.Common.{ℕ, ◌+◌, ◌*◌, ◌<◌, ◌≤◌, Bool, arith, Option}
+use Rattle.std.specs.Prelude.{IfSome}
 use Rattle.dpx_base.specs.declared.lanes.Lanes.{Lanes}
 use Rattle.dpx_base.specs.declared.lanes.Lanes.TheVariants.{One, Two, Four}
 use Rattle.dpx_base.specs.declared.rate.Rate.{Rate}
@@ -37,7 +37,7 @@ Below link next = IfSome next (λ lower. rank_of lower < rank_of link)
 
 pub unrecovered_below : (first : Link) (rate : Rate) (lanes : Lanes) (enhanced : Bool)
     → let link : Link = record { rate = rate; lanes = lanes; enhanced = enhanced } in
-      Below link (after_failed_recovery first link)
+    Below link (after_failed_recovery first link)
 unrecovered_below first Rbr One enhanced = tt
 unrecovered_below first Rbr Two enhanced = omega (arith, rate_rank-bound first.rate)
 unrecovered_below first Rbr Four enhanced = omega (arith, rate_rank-bound first.rate)
@@ -47,7 +47,7 @@ unrecovered_below first Hbr3 lanes enhanced = omega arith
 
 pub unequalised_below : (rate : Rate) (lanes : Lanes) (enhanced : Bool)
     → let link : Link = record { rate = rate; lanes = lanes; enhanced = enhanced } in
-      Below link (after_failed_equalisation link)
+    Below link (after_failed_equalisation link)
 unequalised_below rate Two enhanced = omega arith
 unequalised_below rate Four enhanced = omega arith
 unequalised_below Rbr One enhanced = tt

@@ -1,10 +1,8 @@
 -- How many answers suffice for a training, whatever they are.
-use Rattle.std.proofs.Common.{◌≡◌, ℕ, zero, suc, ◌+◌, ◌*◌, ◌<◌, ◌≤◌, Bool, List, [], ◌∷◌, ◌++◌, length, refl, arith}
+use Rattle.std.proofs.Common.{ℕ, zero, suc, ◌+◌, ◌*◌, ◌<◌, ◌++◌, refl, arith}
 use Rattle.std.proofs.Common.{Option, Some, None, Result, Ok, Err}
-use Rattle.dpx_base.specs.declared.aux_port.Entry.{Entry}
 use Rattle.dpx_base.specs.declared.link.Link.{Link}
 use Rattle.dpx_base.specs.Port.{asks}
-use Rattle.dpx_aux.specs.declared.transaction.AuxEnd.{AuxEnd}
 use Rattle.dpx_aux.specs.Conversation.{Suffices}
 use Rattle.dpx_aux.specs.Transaction.{asks_at_most}
 use Rattle.dpx_aux.proofs.Suffices.{more_suffice, ends_suffice, then_suffices, choice_suffices, left_behind}
@@ -22,9 +20,6 @@ use Rattle.dpx_phase.specs.Recovery.{recovery_asks}
 use Rattle.dpx_phase.proofs.Suffices.{recovery_suffices, equalisation_suffices}
 use Rattle.dpx_link.specs.declared.attempt.AttemptEnd.{AttemptEnd}
 use Rattle.dpx_link.specs.declared.attempt.AttemptEnd.TheVariants as attempt
-use Rattle.dpx_link.specs.declared.fallback.Next.{Next}
-use Rattle.dpx_link.specs.declared.fallback.Next.TheVariants.{Try, Stop}
-use Rattle.dpx_link.specs.declared.train_end.Verdict.{Verdict}
 use Rattle.dpx_link.specs.Attempt.{Attempt, Configures, PhasesInTurn, AfterRecovery, Equalises, equalised}
 use Rattle.dpx_link.specs.Attempt.{attempt_transactions}
 use Rattle.dpx_link.specs.Fallback.{next_of, fall_back, after_failed_recovery, after_failed_equalisation}
@@ -32,7 +27,8 @@ use Rattle.dpx_link.specs.Training.{Capabilities, Capable, Attempts, AfterAttemp
 use Rattle.dpx_link.specs.Training.{attempts_at_most, training_asks, end_of}
 use Rattle.dpx_link.proofs.Ranks.{rank_of, rank_of-bound, Below, unrecovered_below, unequalised_below}
 
-equalises_suffices : (caps : Caps) (link : Link) (drive : Drive) → Suffices equalisation_asks (Equalises caps link drive)
+equalises_suffices : (caps : Caps) (link : Link) (drive : Drive)
+    → Suffices equalisation_asks (Equalises caps link drive)
 equalises_suffices caps link drive answers enough =
     let f = equalisation_suffices link (caps_pattern caps) drive caps.interval answers enough in
     record {
@@ -81,11 +77,13 @@ attempt_suffices caps link =
 -- the attempts from each configuration that has fewer configurations after it than so many
 abbrev MoreSuffice : ℕ → Caps → Link → Type 0
 MoreSuffice left caps first =
-    (link : Link) → rank_of link < left → Suffices (left * (asks_at_most * attempt_transactions)) (Attempts left caps first link)
+    (link : Link) → rank_of link < left → Suffices (left * (asks_at_most * attempt_transactions))
+    (Attempts left caps first link)
 
 fall_back_suffices : (left : ℕ) (caps : Caps) (first link : Link) (last : Status6) (next : Option Link)
     → MoreSuffice left caps first → rank_of link < suc left → Below link next
-    → Suffices (left * (asks_at_most * attempt_transactions)) (AfterAttempt (Attempts left caps first) (fall_back last next))
+    → Suffices (left * (asks_at_most * attempt_transactions))
+    (AfterAttempt (Attempts left caps first) (fall_back last next))
 fall_back_suffices left caps first link last None more room below answers enough = ends_suffice _ _ answers enough
 fall_back_suffices left caps first link last (Some lower) more room below answers enough =
     more lower (omega arith) answers enough
@@ -93,7 +91,7 @@ fall_back_suffices left caps first link last (Some lower) more room below answer
 after_attempt_suffices : (left : ℕ) (caps : Caps) (first link : Link) (end : AttemptEnd) → MoreSuffice left caps first
     → rank_of link < suc left
     → Suffices (left * (asks_at_most * attempt_transactions))
-      (AfterAttempt (Attempts left caps first) (next_of first link end))
+    (AfterAttempt (Attempts left caps first) (next_of first link end))
 after_attempt_suffices left caps first link (attempt.Done drive last) more room answers enough =
     ends_suffice _ _ answers enough
 after_attempt_suffices left caps first link (attempt.Unrecovered last) more room answers enough =
@@ -118,7 +116,8 @@ unfolding TrainsWith
 trains_with_suffices caps first =
     let most = attempts_at_most * (asks_at_most * attempt_transactions) in
     then_suffices asks_at_most (most + asks_at_most) (writes_suffice _ _) (λ powered.
-    then_suffices most asks_at_most (attempts_suffice attempts_at_most caps first first (rank_of-bound first)) (λ verdict.
+    then_suffices most asks_at_most (attempts_suffice attempts_at_most caps first first (rank_of-bound first))
+    (λ verdict.
     then_suffices asks_at_most 0 (writes_suffice _ _) (λ closed. ends_suffice 0 _)))
 
 capable_suffices : (top : Link) (caps : Result Caps CapsBad)

@@ -1,6 +1,7 @@
 -- How many waits, and so how many entries, a training has at most.
-use Rattle.std.proofs.Common.{◌≡◌, ℕ, suc, zero, ◌+◌, ◌*◌, ◌<◌, ◌≤◌, Bool, true, false, List, [], ◌∷◌, ◌++◌, length, refl, sym}
-use Rattle.std.proofs.Common.{ap, subst, arith, Option, Some, None, Result, Ok, Err, MatchResult}
+use Rattle.std.proofs.Common.{◌≡◌, ℕ, suc, zero, ◌+◌, ◌*◌, ◌<◌, ◌≤◌, Bool, true, false, List, [], ◌∷◌, ◌++◌, length}
+use Rattle.std.proofs.Common.{refl}
+use Rattle.std.proofs.Common.{ap, arith, Option, Some, None, Result, Ok, Err, MatchResult}
 use Rattle.dpx_base.specs.declared.aux_port.Answer.{Answer}
 use Rattle.dpx_base.specs.declared.aux_port.Entry.{Entry}
 use Rattle.dpx_base.specs.declared.link.Link.{Link}
@@ -22,13 +23,13 @@ use Rattle.dpx_phase.specs.declared.phase_end.PhaseEnd.TheVariants.{Done, Failed
 use Rattle.dpx_phase.specs.Equalisation.{Equalisation}
 use Rattle.dpx_phase.specs.Phase.{Phase, ReadsLater, Round, Rounds, Concludes, Follows, Takes}
 use Rattle.dpx_phase.specs.Recovery.{Recovery}
-use Rattle.dpx_phase.proofs.Least.{tenth_ends, fifth_ends}
+use Rattle.dpx_phase.proofs.FirstEnd.{tenth_ends, fifth_ends}
 use Rattle.dpx_link.specs.declared.fallback.Next.{Next}
 use Rattle.dpx_link.specs.declared.fallback.Next.TheVariants.{Try, Stop}
 use Rattle.dpx_link.specs.declared.train_end.Verdict.{Verdict}
-use Rattle.dpx_link.specs.Attempt.{Attempt, Configures, PhasesInTurn, AfterRecovery, Equalises}
+use Rattle.dpx_link.specs.Attempt.{Attempt, Configures, AfterRecovery, Equalises}
 use Rattle.dpx_link.specs.Fallback.{next_of}
-use Rattle.dpx_link.specs.Training.{Capabilities, Capable, Never, Attempts, AfterAttempt, TrainsWith, TrainOutcome}
+use Rattle.dpx_link.specs.Training.{Capabilities, Capable, Attempts, AfterAttempt, TrainsWith, TrainOutcome}
 use Rattle.dpx_link.specs.Training.{Training, attempts_at_most, training_entries}
 use Rattle.dpx_link.proofs.Bounded.{training_asked}
 
@@ -54,7 +55,8 @@ asked_waits request [] = refl
 asked_waits request (x ∷ xs) = asked_waits request xs
 
 transaction_waits : (request : Request) → WaitsAtMost 0 (Transaction request)
-transaction_waits request given history t = omega (arith, ap waits t.asked, asked_waits request (t.tried ++ t.last ∷ []))
+transaction_waits request given history t =
+    omega (arith, ap waits t.asked, asked_waits request (t.tried ++ t.last ∷ []))
 
 next_waits : {A B E : Type 0} (n : ℕ) (next : A → Result B E → List Entry → Type 0)
     → ((value : A) → WaitsAtMost n (next value)) → (middle : Result A E) (given : Result B E) (back : List Entry)
@@ -98,7 +100,8 @@ rounds_waits phase (status ∷ statuses) history r =
     let rest = rounds_waits phase statuses r.back r.goes_on in
     omega (arith, waits_joined 1 (length statuses) history r.front r.back r.joined here rest)
 
-concludes_waits : (phase : Phase) (status : Status6) (found : Option PhaseEnd) → WaitsAtMost 0 (Concludes phase status found)
+concludes_waits : (phase : Phase) (status : Status6) (found : Option PhaseEnd)
+    → WaitsAtMost 0 (Concludes phase status found)
 concludes_waits phase status (Some end) given history c = no_entries 0 history c.nothing
 concludes_waits phase status None given history c = writes_waits _ _ (Err c.why) history c.failed
 
@@ -107,19 +110,26 @@ follows_waits : (phase : Phase) (limit : ℕ) → ((all : List Status6) → phas
     → WaitsAtMost limit (Follows phase)
 follows_waits phase limit always some given history f =
     let room : length f.statuses < limit =
-        (let d : limit ≤ length f.statuses → ⊥ = λ within. always f.statuses (f.unended limit some within) in
-        omega arith) in
+    (let d : limit ≤ length f.statuses → ⊥ = λ within. always f.statuses (f.unended limit some within) in
+    omega arith) in
     let last : waits f.last ≤ 1 = then_waits 1 0 _ _ (reads_waits phase.pause) (λ status.
-        concludes_waits phase status _) given f.last f.ends in
-    omega (arith, waits_joined (length f.statuses) 1 history f.before f.last f.joined
-    (rounds_waits phase f.statuses f.before f.rounds) last, room)
+    concludes_waits phase status _) given f.last f.ends in
+    omega (
+      arith,
+      waits_joined (length f.statuses) 1 history f.before f.last f.joined
+          (rounds_waits phase f.statuses f.before f.rounds) last,
+      room,
+    )
 
 takes_waits : (phase : Phase) (chosen : Pattern) (drive : List ℕ) (limit : ℕ)
     → ((all : List Status6) → phase.ending all limit ≡ None → ⊥) → 1 ≤ limit
     → WaitsAtMost limit (Takes phase chosen drive)
 takes_waits phase chosen drive limit always some given history t =
-    omega (arith, then_waits 0 limit _ _ (writes_waits _ _) (λ started. follows_waits phase limit always some)
-    t.result history t.done)
+    omega (
+      arith,
+      then_waits 0 limit _ _ (writes_waits _ _) (λ started. follows_waits phase limit always some)
+          t.result history t.done,
+    )
 
 recovery_waits : (link : Link) → WaitsAtMost 10 (Recovery link)
 unfolding Recovery
@@ -139,7 +149,8 @@ after_waits caps link (Aux why) = ends_waits 5 _
 attempt_waits : (caps : Caps) (link : Link) → WaitsAtMost 15 (Attempt caps link)
 unfolding Attempt Configures
 attempt_waits caps link =
-    then_waits 0 15 _ _ (then_waits 0 0 _ _ (writes_waits _ _) (λ configured. writes_waits _ _)) (λ configured given history p.
+    then_waits 0 15 _ _ (then_waits 0 0 _ _ (writes_waits _ _) (λ configured. writes_waits _ _))
+    (λ configured given history p.
     waits_joined 10 5 history p.front p.back p.joined (recovery_waits link p.end p.front p.recovery)
     (after_waits caps link p.end given p.back p.goes_on))
 
@@ -153,9 +164,12 @@ attempts_waits : (left most : ℕ) (caps : Caps) (first link : Link) → most �
 unfolding Attempts
 attempts_waits zero most caps first link e given history n = absurd n.never
 attempts_waits (suc left) most caps first link e given history t =
-    omega (arith, then_waits 15 (left * 15) _ _ (attempt_waits caps link) (λ end.
-    after_attempt_waits (left * 15) (Attempts left caps first) (λ lower.
-    attempts_waits left (left * 15) caps first lower refl) (next_of first link end)) given history t)
+    omega (
+      arith,
+      then_waits 15 (left * 15) _ _ (attempt_waits caps link) (λ end.
+          after_attempt_waits (left * 15) (Attempts left caps first) (λ lower.
+          attempts_waits left (left * 15) caps first lower refl) (next_of first link end)) given history t,
+    )
 
 trains_with_waits : (caps : Caps) (first : Link) → WaitsAtMost 180 (TrainsWith caps first)
 unfolding TrainsWith
@@ -172,8 +186,14 @@ outcome_waits : (top : Link) → WaitsAtMost 180 (TrainOutcome top)
 unfolding TrainOutcome Capabilities
 outcome_waits top =
     then_waits 0 180 _ _ (then_waits 0 0 _ _ (block_waits _) (λ block.
-    choice_waits 0 (has_extended block) _ _ (block_waits _) (ends_waits 0 _))) (λ block. capable_waits top (caps_read block))
+    choice_waits 0 (has_extended block) _ _ (block_waits _) (ends_waits 0 _)))
+    (λ block. capable_waits top (caps_read block))
 
 pub training_length : (top : Link) → HistoriesAre (Training top) (λ history. length history ≤ training_entries)
 training_length top end history t =
-    omega (arith, length-entries history, training_asked top end history t, outcome_waits top t.outcome history t.trains)
+    omega (
+      arith,
+      length-entries history,
+      training_asked top end history t,
+      outcome_waits top t.outcome history t.trains,
+    )

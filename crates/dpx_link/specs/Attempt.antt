@@ -49,7 +49,8 @@ AfterRecovery caps link (Lost last) = Ends (Ok (attempt.Unrecovered last))
 AfterRecovery caps link (Aux why) = Ends (Err why)
 
 -- clock recovery, and what follows it
-pub record PhasesInTurn (caps : Caps) (link : Link) (given : Result AttemptEnd AuxEnd) (history : List Entry) : Type 0 where
+pub record PhasesInTurn (caps : Caps) (link : Link) (given : Result AttemptEnd AuxEnd)
+    (history : List Entry) : Type 0 where
   pub end : PhaseEnd
   pub front : List Entry
   pub back : List Entry

@@ -69,22 +69,24 @@ pub record LowersRate (link next : Link) : Type 0 where
   pub enhanced : next.enhanced ≡ link.enhanced
 
 -- a configuration is tried that is such
-abbrev pub Tries : (Link → Type 0) → Next → Type 0
-Tries Is (Try link) = Is link
-Tries Is (Stop end) = ⊥
+abbrev pub IsTried : (Link → Type 0) → Next → Type 0
+IsTried Is (Try link) = Is link
+IsTried Is (Stop end) = ⊥
 
--- Behind an attempt that did not equalise: half the lanes at the same rate, while there is more than one; on one lane the
+-- Behind an attempt that did not equalise: half the lanes at the same rate, while there is more than one; on one lane
+-- the
 -- next lower rate; and at RBR on one lane the training ends.
 pub record EqualisationFallsBack (link : Link) (last : Status6) (next : Next) : Type 0 where
-  pub lanes : 1 < lanes_count link.lanes → Tries (HalvesLanes link.rate link) next
-  pub rate : lanes_count link.lanes ≡ 1 → rate_code Rbr < rate_code link.rate → Tries (LowersRate link) next
+  pub lanes : 1 < lanes_count link.lanes → IsTried (HalvesLanes link.rate link) next
+  pub rate : lanes_count link.lanes ≡ 1 → rate_code Rbr < rate_code link.rate → IsTried (LowersRate link) next
   pub none : lanes_count link.lanes ≡ 1 → link.rate ≡ Rbr → next ≡ Stop (NotTrained last)
 
--- Behind an attempt that did not recover all the clocks: the next lower rate on the same lanes; at RBR half the lanes at
+-- Behind an attempt that did not recover all the clocks: the next lower rate on the same lanes; at RBR half the lanes
+-- at
 -- the rate that the training began with; and at RBR on one lane the training ends.
 pub record RecoveryFallsBack (first link : Link) (last : Status6) (next : Next) : Type 0 where
-  pub rate : rate_code Rbr < rate_code link.rate → Tries (LowersRate link) next
-  pub lanes : link.rate ≡ Rbr → 1 < lanes_count link.lanes → Tries (HalvesLanes first.rate link) next
+  pub rate : rate_code Rbr < rate_code link.rate → IsTried (LowersRate link) next
+  pub lanes : link.rate ≡ Rbr → 1 < lanes_count link.lanes → IsTried (HalvesLanes first.rate link) next
   pub none : link.rate ≡ Rbr → lanes_count link.lanes ≡ 1 → next ≡ Stop (NotTrained last)
 
 abbrev pub EqualisationAlwaysFallsBack : Type 0

@@ -1,5 +1,6 @@
 pub mod Attempt
 pub mod Fallback
+pub mod Inner
 pub mod LastStatus
 pub mod Laws
 pub mod Training

@@ -1,5 +1,6 @@
 ghost use Rattle.std.specs.Prelude.{◌≡◌};
-ghost use Rattle.dpx_link.specs.Fallback.{slower_than, half_of, after_failed_recovery, after_failed_equalisation, next_of};
+ghost use Rattle.dpx_link.specs.Fallback.{slower_than, half_of, after_failed_recovery, after_failed_equalisation};
+ghost use Rattle.dpx_link.specs.Fallback.{next_of};
 ghost use Rattle.dpx_link.specs.Fallback.{fall_back, Falls};
 
 use crate::attempt::AttemptEnd;

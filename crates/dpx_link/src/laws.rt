@@ -1,5 +1,5 @@
 //! Laws of the definitions that training is proved against. Each function's contract is the law.
-ghost use Rattle.std.specs.Prelude.{◌≤◌, length};
+ghost use Rattle.std.specs.Prelude.{◌≡◌, ◌≤◌, length};
 ghost use Rattle.dpx_base.specs.Port.{asks};
 ghost use Rattle.dpx_aux.specs.Conversation.{AlwaysIs, IsDecided, HistoriesAre, ResultsAre, Suffices};
 ghost use Rattle.dpx_link.specs.LastStatus.{TrainingIsRead};
@@ -24,16 +24,17 @@ pub fn falls_in_order()
     ensures { FallsAlways }
 {}
 
-/// What is tried after a failed attempt: without all the clocks the next lower rate first, without equalisation fewer
-/// lanes first.
+/// What is tried after a failed attempt: without all the clocks the next lower rate first, without
+/// equalisation fewer lanes first.
 pub fn falls_back()
     ensures recovery { RecoveryAlwaysFallsBack }
     ensures equalisation { EqualisationAlwaysFallsBack }
 {}
 
-/// A training has at most 4 transactions, and 32 for each of 12 attempts; each asks at most 8 times. It waits at most 15
-/// times in an attempt. So its history has at most 3,284 entries.
+/// A training has at most 4 transactions, and 32 for each of 12 attempts; each asks at most 8 times. It waits
+/// at most 15 times in an attempt. So its history has at most 3,284 entries.
 pub fn is_bounded(top: Link)
+    ensures numbers { (training_transactions ≡ 388) × (training_asks ≡ 3104) × (training_entries ≡ 3284) }
     ensures transactions { HistoriesAre (Training top) (MadeOfAtMost training_transactions) }
     ensures asks { HistoriesAre (Training top) (λ history. asks history ≤ training_asks) }
     ensures entries { HistoriesAre (Training top) (λ history. length history ≤ training_entries) }

@@ -3,8 +3,8 @@ ghost use Rattle.dpx_base.specs.Asks.{CanAsk, AsksAtMost};
 ghost use Rattle.dpx_aux.specs.Conversation.{Converses};
 ghost use Rattle.dpx_aux.specs.Transaction.{asks_at_most};
 ghost use Rattle.dpx_link.specs.Attempt.{attempt_transactions};
-ghost use Rattle.dpx_link.specs.Training.{Capabilities, Attempts, TrainsWith, TrainOutcome, Training, requests_told, TrainedIsDone};
-ghost use Rattle.dpx_link.specs.Training.{VerdictIsDone, attempts_at_most, training_asks};
+ghost use Rattle.dpx_link.specs.Training.{Capabilities, Attempts, TrainsWith, TrainOutcome, Training};
+ghost use Rattle.dpx_link.specs.Training.{requests_told, TrainedIsDone, VerdictIsDone, attempts_at_most, training_asks};
 
 use crate::attempt::attempt;
 use crate::fallback::{Next, next_of};
@@ -66,7 +66,8 @@ fn train_with<P: AuxPort>(port: &mut P, caps: &Caps, first: Link) -> Result<Verd
     requires interval { caps.now.interval ≤ 127 }
     requires countable { CanAsk (asks_at_most * (2 + attempts_at_most * attempt_transactions)) (P.state port.old) }
     ensures trains { Converses (TrainsWith caps.now first) (P.state port.old) (P.state port.new) result }
-    ensures few { AsksAtMost (asks_at_most * (2 + attempts_at_most * attempt_transactions)) (P.state port.old) (P.state port.new) }
+    ensures few { AsksAtMost (asks_at_most * (2 + attempts_at_most * attempt_transactions))
+        (P.state port.old) (P.state port.new) }
     ensures good { IfOk result VerdictIsDone }
 {
     write_registers(port, SET_POWER, &[0x01])?;
@@ -81,7 +82,8 @@ fn attempts<P: AuxPort>(port: &mut P, caps: &Caps, first: Link) -> Result<Verdic
     requires countable { CanAsk (asks_at_most * (attempts_at_most * attempt_transactions)) (P.state port.old) }
     ensures attempts { Converses (Attempts attempts_at_most caps.now first first)
         (P.state port.old) (P.state port.new) result }
-    ensures few { AsksAtMost (asks_at_most * (attempts_at_most * attempt_transactions)) (P.state port.old) (P.state port.new) }
+    ensures few { AsksAtMost (asks_at_most * (attempts_at_most * attempt_transactions))
+        (P.state port.old) (P.state port.new) }
     ensures good { IfOk result VerdictIsDone }
 {
     let mut link = first;

@@ -1,5 +1,6 @@
 -- The status that an end tells is the last one that was read, and the drive of Done the last one that was written.
-use Rattle.std.proofs.Common.{◌≡◌, ℕ, ◌+◌, Bool, true, false, nat_le, List, [], ◌∷◌, ◌++◌, length, refl, sym, ap, ◌∙◌, subst, arith, append_assoc, inl, inr, Option, Some, None, Result, Ok, Err, MatchResult}
+use Rattle.std.proofs.Common.{◌≡◌, ℕ, ◌+◌, Bool, true, false, List, [], ◌∷◌, ◌++◌, length, refl, sym, ap, ◌∙◌}
+use Rattle.std.proofs.Common.{subst, append_assoc, inl, inr, Option, Some, None, Result, Ok, Err, MatchResult}
 use Rattle.std.specs.Prelude.{⊤}
 use Rattle.std.proofs.lemmas.List.{append-nil}
 use Rattle.dpx_base.specs.declared.aux_port.Entry.{Entry}
@@ -15,12 +16,12 @@ use Rattle.dpx_phase.specs.declared.phase_end.PhaseEnd.{PhaseEnd}
 use Rattle.dpx_phase.specs.declared.phase_end.PhaseEnd.TheVariants.{Done, Failed, Lost, Aux}
 use Rattle.dpx_phase.specs.declared.phase_end.FailCause.TheVariants.{MaxSwing, SameSwing, Reads}
 use Rattle.dpx_phase.specs.Drives.{no_drive, drive_after}
-use Rattle.dpx_phase.specs.Endings.{alike_after, first_of_four, first_of_three, recovery_ends, equalisation_ends}
+use Rattle.dpx_phase.specs.Endings.{alike_after, first_of_four, first_of_three}
 use Rattle.dpx_phase.specs.Equalisation.{equalisation}
 use Rattle.dpx_phase.specs.LastStatus.{EndIsRead, IsLastRead, IsLastReadWith, WritesDrive}
 use Rattle.dpx_phase.specs.Phase.{Phase, ReadsLater, Rounds, Concludes, Follows, Starts, Takes, as_end}
 use Rattle.dpx_phase.specs.Recovery.{recovery}
-use Rattle.dpx_phase.proofs.Alike.{run}
+use Rattle.dpx_phase.proofs.SwingsAlike.{run}
 use Rattle.dpx_phase.proofs.Decided.{round_parts}
 use Rattle.dpx_phase.proofs.Endings.{recovery_at, equalisation_at}
 
@@ -54,7 +55,7 @@ pub recovery_tells : (lanes : Lanes) → TellsInForce (recovery lanes) no_drive
 recovery_tells lanes = record {
   tells = λ statuses status end e.
       let at = recovery_at lanes statuses status (length statuses + 1) _
-          (run (alike_after lanes no_drive statuses) (length statuses)) refl refl refl in
+      (run (alike_after lanes no_drive statuses) (length statuses)) refl refl refl in
       four_tell _ _ _ _ _ status end (sym e ∙ at);
 }
 
@@ -105,7 +106,7 @@ rounds_written phase first (x ∷ xs) front back w r =
     } in
     let rest = rounds_written phase (status_level phase.lanes x.bytes) xs (front ++ r.front) r.back here r.goes_on in
     let grouped : (front ++ r.front) ++ r.back ≡ front ++ back =
-        append_assoc front r.front r.back ∙ ap (λ (entries : List Entry). front ++ entries) (sym r.joined) in
+    append_assoc front r.front r.back ∙ ap (λ (entries : List Entry). front ++ entries) (sym r.joined) in
     subst (EndsWritten phase.lanes _) grouped rest
 
 -- a read behind such a front
@@ -176,7 +177,7 @@ concluded : (phase : Phase) (drive : List ℕ) (status : Status6) (found : Optio
 concluded phase drive status (Some end) given front back tells l c =
     let here = tells_read phase.lanes drive status end front (tells end refl) l in
     let joined : front ≡ front ++ back =
-        sym (append-nil front) ∙ ap (λ (entries : List Entry). front ++ entries) (sym c.nothing) in
+    sym (append-nil front) ∙ ap (λ (entries : List Entry). front ++ entries) (sym c.nothing) in
     subst (λ (r : Result PhaseEnd AuxEnd). EndIsRead phase.lanes (as_end r) (front ++ back)) (sym c.same)
     (subst (EndIsRead phase.lanes end) joined here)
 concluded phase drive status None given front back tells l c =
@@ -187,8 +188,8 @@ last_round : (phase : Phase) (first : List ℕ) (statuses : List Status6) (middl
     → EndsWritten phase.lanes (drive_after phase.lanes first statuses (length statuses)) front
     → ReadsLater phase.pause middle read
     → MatchResult middle
-      (λ status. Concludes phase status (phase.ending (statuses ++ status ∷ []) (length statuses + 1)) given back)
-      (λ error. (given ≡ Err error) × (back ≡ []))
+    (λ status. Concludes phase status (phase.ending (statuses ++ status ∷ []) (length statuses + 1)) given back)
+    (λ error. (given ≡ Err error) × (back ≡ []))
     → EndIsRead phase.lanes (as_end given) (front ++ (read ++ back))
 last_round phase first statuses (Ok status) given front read back tells w r on =
     let drive = drive_after phase.lanes first statuses (length statuses) in
@@ -204,11 +205,11 @@ followed : (phase : Phase) (first : List ℕ) (given : Result PhaseEnd AuxEnd) (
 followed phase first given front back tells w f =
     let written = rounds_written phase first f.statuses front f.before w f.rounds in
     let here = last_round phase first f.statuses f.ends.middle given (front ++ f.before) f.ends.front f.ends.back
-        tells written f.ends.begins f.ends.goes_on in
+    tells written f.ends.begins f.ends.goes_on in
     let joined : (front ++ f.before) ++ (f.ends.front ++ f.ends.back) ≡ front ++ back =
-        append_assoc front f.before (f.ends.front ++ f.ends.back)
-        ∙ ap (λ (entries : List Entry). front ++ (f.before ++ entries)) (sym f.ends.joined)
-        ∙ ap (λ (entries : List Entry). front ++ entries) (sym f.joined) in
+    append_assoc front f.before (f.ends.front ++ f.ends.back)
+    ∙ ap (λ (entries : List Entry). front ++ (f.before ++ entries)) (sym f.ends.joined)
+    ∙ ap (λ (entries : List Entry). front ++ entries) (sym f.joined) in
     subst (EndIsRead phase.lanes (as_end given)) joined here
 
 started : (phase : Phase) (chosen : Pattern) (first : List ℕ) (middle : Result ⊤ AuxEnd)
@@ -218,7 +219,7 @@ started : (phase : Phase) (chosen : Pattern) (first : List ℕ) (middle : Result
     → EndIsRead phase.lanes (as_end given) (front ++ back)
 started phase chosen first (Ok written) given front back tells s on =
     let w : EndsWritten phase.lanes first front =
-        record { before = []; write = front; joined = refl; written = inr (chosen, s) } in
+    record { before = []; write = front; joined = refl; written = inr (chosen, s) } in
     followed phase first given front back tells w on
 started phase chosen first (Err error) given front back tells s on =
     subst (λ (e : Result PhaseEnd AuxEnd). EndIsRead phase.lanes (as_end e) (front ++ back)) (sym on.0) tt
@@ -228,6 +229,6 @@ pub takes_read : (phase : Phase) (chosen : Pattern) (first : List ℕ) → Tells
     → AlwaysIs (Takes phase chosen first) (EndIsRead phase.lanes)
 takes_read phase chosen first tells given history t =
     let here = started phase chosen first t.done.middle t.result t.done.front t.done.back tells t.done.begins
-        t.done.goes_on in
+    t.done.goes_on in
     subst (λ (end : PhaseEnd). EndIsRead phase.lanes end history) (sym t.same)
     (subst (EndIsRead phase.lanes (as_end t.result)) (sym t.done.joined) here)

@@ -1,11 +1,11 @@
 pub mod Statuses
-pub mod Alike
+pub mod SwingsAlike
 pub mod Endings
 pub mod Rounds
-pub mod Levels
-pub mod Turns
-pub mod Least
+pub mod RecoveryRounds
+pub mod EqualisationRounds
+pub mod FirstEnd
 pub mod Decided
-pub mod Honest
+pub mod EndsSay
 pub mod LastStatus
 pub mod Suffices

@@ -1,14 +1,13 @@
 -- How many answers suffice for a phase: whatever they are, it ends by the last status that may be read.
-use Rattle.std.proofs.Common.{◌≡◌, ℕ, zero, suc, ◌+◌, ◌*◌, ◌<◌, ◌≤◌, List, [], ◌∷◌, ◌++◌, length, refl, sym, ap, ◌∙◌, subst}
+use Rattle.std.proofs.Common.{◌≡◌, ℕ, zero, suc, ◌+◌, ◌*◌, ◌≤◌, List, [], ◌∷◌, ◌++◌, length, refl, sym, ap, ◌∙◌}
+use Rattle.std.proofs.Common.{subst}
 use Rattle.std.proofs.Common.{arith, append_assoc, length-append, Option, Some, None, Result, Ok, Err}
 use Rattle.std.specs.Prelude.{⊤}
 use Rattle.std.proofs.lemmas.List.{append-nil}
-use Rattle.dpx_base.specs.declared.aux_port.Answer.{Answer}
 use Rattle.dpx_base.specs.declared.aux_port.Entry.{Entry}
 use Rattle.dpx_base.specs.declared.link.Link.{Link}
-use Rattle.dpx_base.specs.Port.{answers_in}
 use Rattle.dpx_aux.specs.declared.transaction.AuxEnd.{AuxEnd}
-use Rattle.dpx_aux.specs.Conversation.{Ends, HasFront, Suffices}
+use Rattle.dpx_aux.specs.Conversation.{HasFront, Suffices}
 use Rattle.dpx_aux.specs.Transaction.{asks_at_most}
 use Rattle.dpx_aux.proofs.Suffices.{waits_suffice, then_suffices, left_behind, begins_joined, few_joined}
 use Rattle.dpx_dpcd.specs.declared.pattern.Pattern.{Pattern}
@@ -18,11 +17,12 @@ use Rattle.dpx_dpcd.specs.Status.{status_level}
 use Rattle.dpx_dpcd.proofs.Suffices.{writes_suffice, status_suffices}
 use Rattle.dpx_phase.specs.declared.phase_end.PhaseEnd.{PhaseEnd}
 use Rattle.dpx_phase.specs.Endings.{EndsNothing, recovery_reads, equalisation_reads}
-use Rattle.dpx_phase.specs.Phase.{Phase, ReadsLater, Adjusts, Round, Rounds, Concludes, LastRound, Follows, Runs, Takes, as_end}
+use Rattle.dpx_phase.specs.Phase.{Phase, ReadsLater, Adjusts, Round, Rounds, Concludes, LastRound, Follows, Runs, Takes}
+use Rattle.dpx_phase.specs.Phase.{as_end}
 use Rattle.dpx_phase.specs.Equalisation.{Equalisation, equalisation, equalisation_asks, pause_of}
 use Rattle.dpx_phase.specs.Recovery.{Recovery, recovery, recovery_asks}
 use Rattle.dpx_phase.proofs.Endings.{LooksBack, recovery_looks_back, equalisation_looks_back}
-use Rattle.dpx_phase.proofs.Least.{tenth_ends, fifth_ends}
+use Rattle.dpx_phase.proofs.FirstEnd.{tenth_ends, fifth_ends}
 use Rattle.dpx_phase.proofs.Rounds.{Rounds-push, EndsNothing-push}
 
 reads_suffice : (pause : ℕ) → Suffices asks_at_most (ReadsLater pause)
@@ -119,7 +119,8 @@ round_more : (phase : Phase) (statuses : List Status6) (status : Status6) (befor
     → SoFar phase (statuses ++ status ∷ []) (before ++ (read ++ write))
 round_more phase statuses status before read write looks so_far r e w = record {
   unended = EndsNothing-push phase.ending statuses status looks so_far.unended e;
-  rounds = Rounds-push phase statuses status before (read ++ write) so_far.rounds (whole_round phase status read write r w);
+  rounds = Rounds-push phase statuses status before (read ++ write) so_far.rounds
+      (whole_round phase status read write r w);
 }
 
 -- a phase that the status of this number always ends
@@ -139,7 +140,7 @@ written_suffices : (phase : Phase) (limit more : ℕ) (statuses : List Status6) 
     → ReadsLater phase.pause (Ok status) read
     → phase.ending (statuses ++ status ∷ []) (length statuses + 1) ≡ None
     → ((now : List Status6) (entries : List Entry) → length now ≡ length statuses + 1 → SoFar phase now entries
-      → Suffices (enough_for more) (FollowsFrom phase entries))
+    → Suffices (enough_for more) (FollowsFrom phase entries))
     → (middle : Result ⊤ AuxEnd) (write : List Entry)
     → Adjusts phase.lanes (status_level phase.lanes status.bytes) middle write
     → Suffices (enough_for more) (λ given history. FollowsFrom phase before given (read ++ (write ++ history)))
@@ -155,14 +156,15 @@ written_suffices phase limit more statuses status before read limited so_far r e
       begins = refl;
       few = omega arith;
     }
-written_suffices phase limit more statuses status before read limited so_far r e rest (Ok written) write w answers enough =
+written_suffices phase limit more statuses status before read limited so_far r e rest
+    (Ok written) write w answers enough =
     let now = statuses ++ status ∷ [] in
     let entries = before ++ (read ++ write) in
     let f = rest now entries (omega (arith, length-append statuses (status ∷ [])))
-        (round_more phase statuses status before read write limited.looks so_far r e w) answers enough in
+    (round_more phase statuses status before read write limited.looks so_far r e w) answers enough in
     let joined : entries ++ f.history ≡ before ++ (read ++ (write ++ f.history)) =
-        append_assoc before (read ++ write) f.history
-        ∙ ap (λ (xs : List Entry). before ++ xs) (append_assoc read write f.history) in
+    append_assoc before (read ++ write) f.history
+    ∙ ap (λ (xs : List Entry). before ++ xs) (append_assoc read write f.history) in
     record {
       given = f.given;
       history = f.history;
@@ -183,16 +185,18 @@ found_suffices : (phase : Phase) (limit more : ℕ) (statuses : List Status6) (s
     (before read : List Entry) → Limited phase limit → GoesOn phase limit more → length statuses + suc more ≡ limit
     → SoFar phase statuses before → ReadsLater phase.pause (Ok status) read → (found : Option PhaseEnd)
     → phase.ending (statuses ++ status ∷ []) (length statuses + 1) ≡ found
-    → Suffices (more * (asks_at_most + asks_at_most)) (λ given history. FollowsFrom phase before given (read ++ history))
-found_suffices phase limit more statuses status before read limited rest left so_far r (Some end) e answers enough = record {
-  given = Ok end;
-  history = [];
-  rest = answers;
-  done = subst (FollowsFrom phase before (Ok end)) (sym (append-nil read))
-      (ends_here phase statuses before read (Ok end) so_far (ends_at phase statuses status end read r e));
-  begins = refl;
-  few = omega arith;
-}
+    → Suffices (more * (asks_at_most + asks_at_most))
+    (λ given history. FollowsFrom phase before given (read ++ history))
+found_suffices phase limit more statuses status before read limited rest left so_far r (Some end) e answers enough =
+    record {
+      given = Ok end;
+      history = [];
+      rest = answers;
+      done = subst (FollowsFrom phase before (Ok end)) (sym (append-nil read))
+          (ends_here phase statuses before read (Ok end) so_far (ends_at phase statuses status end read r e));
+      begins = refl;
+      few = omega arith;
+    }
 found_suffices phase limit zero statuses status before read limited rest left so_far r None e answers enough =
     let last : length statuses + 1 ≡ limit = omega (arith, left) in
     absurd (limited.always (statuses ++ status ∷ [])
@@ -202,10 +206,11 @@ found_suffices phase limit (suc more) statuses status before read limited rest l
     let room : asks_at_most ≤ length answers = omega arith in
     let w : HasFront asks_at_most (Adjusts phase.lanes next) answers = writes_suffice _ _ answers room in
     let later : (now : List Status6) (entries : List Entry) → length now ≡ length statuses + 1
-        → SoFar phase now entries → Suffices (enough_for (suc more)) (FollowsFrom phase entries) =
-        λ now entries size s. rest now entries (omega (arith, size, left)) s in
-    let v = written_suffices phase limit (suc more) statuses status before read limited so_far r e later w.given w.history
-        w.done w.rest (left_behind w (enough_for (suc more)) (omega arith)) in
+    → SoFar phase now entries → Suffices (enough_for (suc more)) (FollowsFrom phase entries) =
+    λ now entries size s. rest now entries (omega (arith, size, left)) s in
+    let v = written_suffices phase limit (suc more) statuses status before read limited so_far r e
+    later w.given w.history
+    w.done w.rest (left_behind w (enough_for (suc more)) (omega arith)) in
     record {
       given = v.given;
       history = w.history ++ v.history;
@@ -218,7 +223,8 @@ found_suffices phase limit (suc more) statuses status before read limited rest l
 read_suffices : (phase : Phase) (limit more : ℕ) (statuses : List Status6) (before : List Entry)
     → Limited phase limit → GoesOn phase limit more → length statuses + suc more ≡ limit → SoFar phase statuses before
     → (middle : Result Status6 AuxEnd) (read : List Entry) → ReadsLater phase.pause middle read
-    → Suffices (more * (asks_at_most + asks_at_most)) (λ given history. FollowsFrom phase before given (read ++ history))
+    → Suffices (more * (asks_at_most + asks_at_most))
+    (λ given history. FollowsFrom phase before given (read ++ history))
 read_suffices phase limit more statuses before limited rest left so_far (Err why) read r answers enough = record {
   given = Err why;
   history = [];
@@ -237,7 +243,7 @@ from_here phase limit limited zero statuses before left so_far answers enough =
 from_here phase limit limited (suc more) statuses before left so_far answers enough =
     let r = reads_suffice phase.pause answers (omega arith) in
     let v = read_suffices phase limit more statuses before limited (from_here phase limit limited more) left so_far
-        r.given r.history r.done r.rest (left_behind r (more * (asks_at_most + asks_at_most)) (omega arith)) in
+    r.given r.history r.done r.rest (left_behind r (more * (asks_at_most + asks_at_most)) (omega arith)) in
     record {
       given = v.given;
       history = r.history ++ v.history;
@@ -256,8 +262,8 @@ takes_suffice : (phase : Phase) (chosen : Pattern) (drive : List ℕ) (limit : �
     → Suffices (asks_at_most + enough_for limit) (Takes phase chosen drive)
 takes_suffice phase chosen drive limit limited answers enough =
     let runs : Suffices (asks_at_most + enough_for limit) (Runs phase chosen drive) =
-        then_suffices asks_at_most (enough_for limit) (writes_suffice _ _) (λ started.
-        follows_suffice phase limit limited) in
+    then_suffices asks_at_most (enough_for limit) (writes_suffice _ _) (λ started.
+    follows_suffice phase limit limited) in
     let f = runs answers enough in
     record {
       given = as_end f.given;

@@ -1,6 +1,5 @@
 -- What the ends of the phases obey.
 use Rattle.std.specs.Prelude.{◌≡◌, ℕ, ◌≤◌, List, [], ◌++◌, length, take, Option}
-use Rattle.dpx_base.specs.declared.aux_port.Entry.{Entry}
 use Rattle.dpx_dpcd.specs.declared.status.Status6.{Status6}
 use Rattle.dpx_phase.specs.declared.phase_end.PhaseEnd.{PhaseEnd}
 use Rattle.dpx_phase.specs.Endings.{EndsAt}

@@ -80,7 +80,8 @@ fn adjust<P: AuxPort>(
     requires { CanAsk (asks_at_most * rounds_transactions equalisation_reads) (P.state port.old) }
     ensures follows { Converses (Follows (equalisation lanes first.registers pause))
         (P.state port.old) (P.state port.new) result }
-    ensures few { AsksAtMost (asks_at_most * rounds_transactions equalisation_reads) (P.state port.old) (P.state port.new) }
+    ensures few { AsksAtMost (asks_at_most * rounds_transactions equalisation_reads)
+        (P.state port.old) (P.state port.new) }
     ensures end { IfOk result (EndsEqualisation lanes) }
 {
     let mut drive = first;

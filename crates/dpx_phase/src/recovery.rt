@@ -64,7 +64,8 @@ fn start<P: AuxPort>(port: &mut P, lanes: Lanes) -> Result<PhaseEnd, AuxEnd>
 fn adjust<P: AuxPort>(port: &mut P, lanes: Lanes) -> Result<PhaseEnd, AuxEnd>
     requires { CanAsk (asks_at_most * rounds_transactions recovery_reads) (P.state port.old) }
     ensures follows { Converses (Follows (recovery lanes)) (P.state port.old) (P.state port.new) result }
-    ensures few { AsksAtMost (asks_at_most * rounds_transactions recovery_reads) (P.state port.old) (P.state port.new) }
+    ensures few { AsksAtMost (asks_at_most * rounds_transactions recovery_reads)
+        (P.state port.old) (P.state port.new) }
     ensures end { IfOk result (EndsRecovery lanes) }
 {
     let mut level = Level {

@@ -22,7 +22,11 @@ pub(crate) fn write_start<P: AuxPort>(
 {
     let [lane_0, lane_1, lane_2, lane_3] = drive.registers;
     let bytes = [pattern.register(), lane_0, lane_1, lane_2, lane_3];
-    write_registers(port, TRAINING_PATTERN_SET, &bytes[..1 + usize::from(lanes.count())])
+    write_registers(
+        port,
+        TRAINING_PATTERN_SET,
+        &bytes[..1 + usize::from(lanes.count())],
+    )
 }
 
 /// Writes the drive of the lanes in use.

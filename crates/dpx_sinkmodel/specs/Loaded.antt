@@ -3,7 +3,7 @@ use Rattle.std.specs.Prelude.{◌≡◌, ℕ, List, [], drop, refl}
 use Rattle.dpx_base.specs.declared.aux_port.Answer.{Answer}
 use Rattle.dpx_dpcd.specs.declared.plan.SinkPlan.{SinkPlan}
 use Rattle.dpx_dpcd.specs.declared.plan.SinkPlan.TheVariants as plan
-use Rattle.dpx_dpcd.specs.RegFile.{facts_of, registers_of}
+use Rattle.dpx_dpcd.specs.RegFile.{sink_facts, registers_of}
 use Rattle.dpx_dpcd.specs.declared.register_file.RegFile.{RegFile}
 use Rattle.dpx_dpcd.specs.SinkPlan.{SinkState, script_answers, sink_answers}
 use Rattle.dpx_sinkmodel.specs.declared.loaded.Loaded.{Loaded}
@@ -13,7 +13,7 @@ use Rattle.dpx_sinkmodel.specs.declared.loaded.Loaded.TheVariants.{Script, Model
 abbrev pub plan_loaded : Loaded → SinkPlan
 plan_loaded (Script answers next) = plan.Script answers
 plan_loaded (Model file defers requests) =
-    plan.Model (facts_of file).caps (facts_of file).extended defers (facts_of file).channel
+    plan.Model (sink_facts file).caps (sink_facts file).extended defers (sink_facts file).channel
 
 -- a modelled sink between two asks
 abbrev pub sink_state : RegFile → ℕ → SinkState
@@ -23,7 +23,7 @@ sink_state file requests = record { requests = requests; registers = registers_o
 abbrev pub answers_next : Loaded → List (List ℕ) → List Answer
 answers_next (Script answers next) bytes = script_answers (drop next answers) bytes
 answers_next (Model file defers requests) bytes =
-    sink_answers (facts_of file) defers (sink_state file requests) bytes
+    sink_answers (sink_facts file) defers (sink_state file requests) bytes
 
 -- how many requests a modelled sink has got
 abbrev pub requests_so_far : Loaded → ℕ

@@ -1,5 +1,5 @@
 ghost use Rattle.std.specs.Prelude.{◌≡◌, ℕ, ◌+◌, ◌-◌, ◌^◌, ◌<◌, ◌≤◌, List, ◌∷◌, [], length, drop};
-ghost use Rattle.dpx_dpcd.specs.RegFile.{facts_of, registers_of};
+ghost use Rattle.dpx_dpcd.specs.RegFile.{sink_facts, registers_of};
 ghost use Rattle.dpx_dpcd.specs.SinkPlan.{planned, script_answers, sink_answer, after_request};
 ghost use Rattle.dpx_aux.specs.Request.{read_request};
 ghost use Rattle.dpx_sinkmodel.specs.Loaded.{plan_loaded, sink_state, answers_next, requests_so_far};
@@ -62,7 +62,7 @@ impl Loaded {
     }
 }
 
-#[tactic(auto, using(crate::proofs::Plays::script_goes_on, crate::proofs::Plays::script_is_over))]
+#[tactic(auto, using(crate::proofs::PlanPlayed::script_goes_on, crate::proofs::PlanPlayed::script_is_over))]
 fn next_of_script(answers: &AnswerList, next: &mut usize) -> Answer
     ensures { (bytes : List ℕ) (later : List (List ℕ)) →
         script_answers (drop next.old answers.now) (bytes ∷ later)
@@ -79,13 +79,13 @@ fn next_of_script(answers: &AnswerList, next: &mut usize) -> Answer
 fn answer_of_sink(file: &mut RegFile, defers: u8, requests: &mut u64, bytes: &[u8]) -> Answer
     requires { requests.old < 2 ^ 64 - 1 }
     ensures answer { let before = sink_state file.old requests.old in
-        result ≡ sink_answer (facts_of file.old) defers before (read_request bytes.now) }
+        result ≡ sink_answer (sink_facts file.old) defers before (read_request bytes.now) }
     ensures requests { let after = after_request defers (sink_state file.old requests.old) (read_request bytes.now) in
         requests.new ≡ after.requests }
     ensures registers { let after = after_request defers (sink_state file.old requests.old) (read_request bytes.now) in
         (address : ℕ) → registers_of file.new address ≡ after.registers address }
     ensures few { requests.new ≤ requests.old + 1 }
-    ensures facts { facts_of file.new ≡ facts_of file.old }
+    ensures facts { sink_facts file.new ≡ sink_facts file.old }
 {
     let Ok(request) = read_request(bytes) else {
         return Answer::Silent;

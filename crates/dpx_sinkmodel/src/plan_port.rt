@@ -80,7 +80,8 @@ impl AuxPort for PlanPort {
         ensures added { Added (Entry.Asked request.now result ∷ []) (state_of self.old) (state_of self.new) }
         ensures answers { (later : List (List ℕ)) →
             answers_to self.old (request.now ∷ later) ≡ result ∷ answers_to self.new later }
-        ensures told { (state_of self.new).history ≡ told_with (state_of self.old).history (Entry.Asked request.now result) }
+        ensures told { (state_of self.new).history
+            ≡ told_with (state_of self.old).history (Entry.Asked request.now result) }
         ensures kept { entries_of self.new ≡ kept_with (entries_of self.old) (Entry.Asked request.now result) }
     {
         let answer = self.loaded.answer(request);
@@ -134,7 +135,8 @@ impl LoadPort for PlanPort {
     }
 
     ghost as_planned = { λ port. let loaded = port.loaded in
-        as_planned_by (plan_loaded loaded) port.kept port.entries.items (answers_next loaded) port.plays (answers_next-nil loaded) };
+        as_planned_by (plan_loaded loaded) port.kept port.entries.items (answers_next loaded) port.plays
+        (answers_next-nil loaded) };
 }
 
 /// Keeps the entry while there is room. Else not all entries are kept any more.

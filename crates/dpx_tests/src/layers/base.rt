@@ -1,6 +1,6 @@
 ghost use Rattle.std.specs.Prelude.{◌<◌, ◌≤◌, length};
 
-use dpx_base::{Bytes20, Failed, Lanes, MemSink, MemSource, Rate, Sink, Source};
+use dpx_base::{BoundedList, Bytes20, Failed, Lanes, MemSink, MemSource, Rate, Sink, Source};
 use std::process::Abort;
 use std::test::Fail;
 
@@ -48,10 +48,22 @@ fn lanes_are_one_two_or_four(rt: HostRuntime) {
 }
 
 #[test]
-fn bounded_bytes_give_back_what_they_were_made_of(rt: HostRuntime) {
+fn every_lane_looks_at_the_lanes_in_use(rt: HostRuntime) {
+    let cases = [(Lanes::One, 1), (Lanes::Two, 2), (Lanes::Four, 4)];
+    for (lanes, count) in cases {
+        assert!(rt; lanes.every_lane(|lane| lane < count), "{lanes:?}");
+        assert!(rt; !lanes.every_lane(|lane| lane + 1 < count), "{lanes:?}");
+    }
+}
+
+#[test]
+fn bounded_list_gives_back_what_it_was_made_of(rt: HostRuntime) {
     let twenty = [7; 20];
     assert_eq!(rt; Bytes20::from_slice(&twenty).as_slice(), twenty.as_slice());
-    assert_eq!(rt; Bytes20::from_slice(&[]).as_slice(), [].as_slice());
+    assert_eq!(rt; Bytes20::from_slice(&[]).len(), 0);
+    let symbols = BoundedList::<u16, 1, 4>::from_slice(&[0x1bc, 0x0fb, 0x002]);
+    assert_eq!(rt; symbols.as_slice(), [0x1bc, 0x0fb, 0x002].as_slice());
+    assert_eq!(rt; (symbols.len(), symbols.get(2)), (3, 0x002));
 }
 
 /// A read into a buffer of this room gives these bytes, or it fails.

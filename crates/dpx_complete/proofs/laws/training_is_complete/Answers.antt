@@ -1,5 +1,5 @@
 use Rattle.dpx_complete.proofs.Deferred.{ends_deferred}
-use Rattle.dpx_complete.proofs.Trainings.{ends_by_plan}
+use Rattle.dpx_complete.proofs.TrainingAnswered.{ends_by_plan}
 use Rattle.dpx_complete.proofs.laws.training_is_complete.Goals as goal
 
 pub returns-clause-complete : goal.returns-clause-complete

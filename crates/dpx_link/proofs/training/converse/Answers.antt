@@ -11,8 +11,11 @@ use Rattle.dpx_link.specs.Training.{TrainOutcome, Capable}
 use Rattle.dpx_link.proofs.training.converse.Goals as goal
 
 -- what was read of the block is what it says
-read_as : {Plan : Type 0} (top : Link) {read says : Result Caps CapsBad} {before now : PortState Plan} {given : Result Verdict AuxEnd} → read ≡ says → Converses (Capable top read) before now given → Converses (Capable top says) before now given
-read_as top {before = before} {now = now} {given = given} e c = subst (λ caps. Converses (Capable top caps) before now given) e c
+read_as : {Plan : Type 0}
+    (top : Link) {read says : Result Caps CapsBad} {before now : PortState Plan} {given : Result Verdict AuxEnd}
+    → read ≡ says → Converses (Capable top read) before now given → Converses (Capable top says) before now given
+read_as top {before = before} {now = now} {given = given} e c =
+    subst (λ caps. Converses (Capable top caps) before now given) e c
 
 pub returns-in-Ok-clause-trains : goal.returns-in-Ok-clause-trains
 unfolding TrainOutcome

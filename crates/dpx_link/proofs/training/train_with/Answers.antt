@@ -12,10 +12,13 @@ returns-in_err-verdict-clause-trains g c =
 pub returns-in_err-write_registers-2-clause-trains : goal.returns-in_err-write_registers-2-clause-trains
 unfolding TrainsWith
 returns-in_err-write_registers-2-clause-trains g c =
-    let p = err_from_is_err_and c.from_residual-in_err-write_registers-2.result c.from_residual-in_err-write_registers-2.ensures.1 in
-    rw (p.1, p.2) (then_ok c.in_ok-write_registers.ensures.writes (then_ok c.in_ok-verdict.ensures.attempts (then_err c.in_err-write_registers-2.ensures.writes)))
+    let residual = c.from_residual-in_err-write_registers-2 in
+    let p = err_from_is_err_and residual.result residual.ensures.1 in
+    rw (p.1, p.2) (then_ok c.in_ok-write_registers.ensures.writes
+    (then_ok c.in_ok-verdict.ensures.attempts (then_err c.in_err-write_registers-2.ensures.writes)))
 
 pub returns-clause-trains : goal.returns-clause-trains
 unfolding TrainsWith
 returns-clause-trains g c =
-    then_ok c.in_ok-write_registers.ensures.writes (then_ok c.in_ok-verdict.ensures.attempts (then_ok c.in_ok-write_registers-2.ensures.writes (ends _ _)))
+    then_ok c.in_ok-write_registers.ensures.writes
+    (then_ok c.in_ok-verdict.ensures.attempts (then_ok c.in_ok-write_registers-2.ensures.writes (ends _ _)))

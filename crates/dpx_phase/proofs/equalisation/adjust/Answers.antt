@@ -1,6 +1,7 @@
 use Rattle.std.proofs.Common.{◌≡◌, ◌+◌, ◌-◌, arith}
 use Rattle.std.proofs.lemmas.Result.{err_from_is_err_and}
-use Rattle.dpx_phase.proofs.Turns.{equalises_not_yet, equalises_on, equalised, unread_equalisation, unwritten_equalisation}
+use Rattle.dpx_phase.proofs.EqualisationRounds.{equalises_not_yet, equalises_on, equalised, unread_equalisation}
+use Rattle.dpx_phase.proofs.EqualisationRounds.{unwritten_equalisation}
 use Rattle.dpx_phase.proofs.equalisation.adjust.Goals as goal
 
 pub loop-number-init : goal.loop-number-init
@@ -12,13 +13,16 @@ returns-in_err-status-clause-follows g c =
     rw (p.1, p.2) (unread_equalisation c.loop-number.invariant c.in_err-status.ensures.reads)
 
 pub returns-in-Some-clause-follows : goal.returns-in-Some-clause-follows
-returns-in-Some-clause-follows g c = equalised c.loop-number.invariant c.loop-number.number (omega arith) c.in_ok-status.ensures.reads c.in-Some.ensures.value
+returns-in-Some-clause-follows g c = equalised c.loop-number.invariant c.loop-number.number
+    (omega arith) c.in_ok-status.ensures.reads c.in-Some.ensures.value
 
 pub returns-in_err-write_drive-clause-follows : goal.returns-in_err-write_drive-clause-follows
 returns-in_err-write_drive-clause-follows g c =
-    let p = err_from_is_err_and c.from_residual-in_err-write_drive.result c.from_residual-in_err-write_drive.ensures.1 in
+    let residual = c.from_residual-in_err-write_drive in
+    let p = err_from_is_err_and residual.result residual.ensures.1 in
     let writes = rw c.level-drive.ensures at c.in_err-write_drive.ensures.writes in
-    rw (p.1, p.2) (unwritten_equalisation c.loop-number.invariant c.loop-number.number (omega arith) c.in_ok-status.ensures.reads c.in-None.ensures.value writes)
+    rw (p.1, p.2) (unwritten_equalisation c.loop-number.invariant c.loop-number.number
+    (omega arith) c.in_ok-status.ensures.reads c.in-None.ensures.value writes)
 
 pub loop-number-preserved : goal.loop-number-preserved
 loop-number-preserved g c =

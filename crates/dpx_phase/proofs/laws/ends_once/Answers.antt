@@ -1,5 +1,5 @@
 use Rattle.dpx_phase.proofs.Endings.{recovery_looks_back, equalisation_looks_back}
-use Rattle.dpx_phase.proofs.Least.{ends_once}
+use Rattle.dpx_phase.proofs.FirstEnd.{ends_once}
 use Rattle.dpx_phase.proofs.laws.ends_once.Goals as goal
 
 pub returns-clause-recovery : goal.returns-clause-recovery

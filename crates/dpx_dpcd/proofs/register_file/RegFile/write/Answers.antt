@@ -6,6 +6,7 @@ loop-place-init c = record { registers = λ x. writes_none _ c.args.address c.ar
 
 pub loop-place-preserved : goal.loop-place-preserved
 loop-place-preserved c = record {
-  registers = λ x. writes_more _ c.args.address c.args.bytes.now c.loop-place.place x _ _ c.loop-place-test.true (c.loop-place.invariant.registers x) (c.put.ensures.registers x);
+  registers = λ x. writes_more _ c.args.address c.args.bytes.now c.loop-place.place x _ _ c.loop-place-test.true
+      (c.loop-place.invariant.registers x) (c.put.ensures.registers x);
   facts = cc;
 }

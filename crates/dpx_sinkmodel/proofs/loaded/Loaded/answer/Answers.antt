@@ -4,4 +4,5 @@ use Rattle.dpx_sinkmodel.proofs.loaded.Loaded.answer.Goals as goal
 
 pub returns-in-Script-clause-answers : goal.returns-in-Script-clause-answers
 returns-in-Script-clause-answers c = λ later.
-    ap (λ loaded. answers_next loaded (c.args.bytes.now ∷ later)) c.in-Script.is ∙ c.next_of_script.ensures c.args.bytes.now later
+    ap (λ loaded. answers_next loaded (c.args.bytes.now ∷ later)) c.in-Script.is
+    ∙ c.next_of_script.ensures c.args.bytes.now later
