@@ -14,6 +14,7 @@ use Rattle.dpx_dpcd.specs.Caps.{has_extended, caps_read, caps_start}
 use Rattle.dpx_dpcd.specs.Cell.{CellFacts}
 pub use Rattle.dpx_dpcd.specs.Model.{IsModel, IsCell}
 use Rattle.dpx_dpcd.specs.LoadPort.{requests_in, IsLoaded, AnswersAsPlanned}
+use Rattle.dpx_dpcd.specs.RegisterMap.{dpcd_rev}
 use Rattle.dpx_dpcd.specs.SinkPlan.{planned}
 use Rattle.dpx_link.specs.declared.train_end.TrainEnd.{TrainEnd}
 use Rattle.dpx_link.specs.declared.train_end.TrainEnd.TheVariants.{Trained, NotTrained, CapsRefused, AuxEnded}
@@ -40,7 +41,7 @@ EndsByPlan channel top (Err why) end = ⊥
 
 -- the first request was deferred eight times
 abbrev pub EndsDeferred : TrainEnd → Type 0
-EndsDeferred (AuxEnded why requests) = why ≡ Spent 0x00000 Defer
+EndsDeferred (AuxEnded why requests) = why ≡ Spent dpcd_rev Defer
 EndsDeferred end = ⊥
 
 -- a training of the top configuration that a modelled sink answered, loaded with this plan and not asked before

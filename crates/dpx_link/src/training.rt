@@ -94,5 +94,6 @@ fn attempts<P: AuxPort>(port: &mut P, caps: &Caps, first: Link) -> Result<Verdic
             Next::Stop(verdict) => return Ok(verdict),
         }
     }
+    // Each step falls, and there are no more configurations than attempts.
     unreachable!()
 }

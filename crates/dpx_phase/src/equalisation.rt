@@ -94,6 +94,7 @@ fn adjust<P: AuxPort>(
         drive = status.level(lanes);
         write_drive(port, lanes, drive)?;
     }
+    // The fifth status always ends the phase.
     unreachable!()
 }
 

@@ -81,6 +81,7 @@ fn adjust<P: AuxPort>(port: &mut P, lanes: Lanes) -> Result<PhaseEnd, AuxEnd>
         level = next(lanes, status, level);
         write_drive(port, lanes, level.drive)?;
     }
+    // The tenth status always ends the phase.
     unreachable!()
 }
 

@@ -98,6 +98,7 @@ fn answer_of_sink(file: &mut RegFile, defers: u8, requests: &mut u64, bytes: &[u
     }
     match file.answer(&request) {
         Reply::Ack(brought) => acknowledgement(brought.as_slice()),
+        // It acknowledges every request.
         _ => unreachable!(),
     }
 }
