@@ -51,7 +51,7 @@ equalisation_good : (link : Link) (chosen : Pattern) (drive : Drive) (interval :
     → ResultsAre (Equalisation link chosen drive interval) (EndsEqualisation link.lanes)
 unfolding Equalisation
 equalisation_good link chosen drive interval =
-    takes_always (EndsEqualisation link.lanes) _ _ _ (equalisation_honest link.lanes drive.registers) (λ why. tt)
+    takes_always (EndsEqualisation link.lanes) _ (equalisation_honest link.lanes drive.registers) (λ why. tt) _ _
 
 equalised_good : (link : Link) (end : PhaseEnd) → EndsEqualisation link.lanes end
     → IfOk (equalised end) (AttemptIsDone link.lanes)

@@ -1,5 +1,5 @@
 -- What an end says of the last status, whatever the history was.
-use Rattle.std.proofs.Common.{◌≡◌, ℕ, Bool, true, false, List, [], refl, sym, subst, Option, Some, None, Result, Ok}
+use Rattle.std.proofs.Common.{◌≡◌, ℕ, Bool, true, false, List, [], ◌∷◌, ◌++◌, length, ◌+◌, refl, sym, subst, Option, Some, None, Result, Ok}
 use Rattle.std.proofs.Common.{Err, MatchResult}
 use Rattle.std.specs.Prelude.{⊤}
 use Rattle.dpx_base.specs.declared.aux_port.Entry.{Entry}
@@ -51,42 +51,39 @@ pub equalisation_honest : (lanes : Lanes) (first : List ℕ) (statuses : List St
 unfolding equalisation_ends
 equalisation_honest lanes first statuses n end e = three_say lanes _ _ _ _ _ end refl refl (sym e)
 
--- a fact of every end that the statuses give, and of a failed transaction, is one of every end
-conclusion_says : (Is : PhaseEnd → Type 0) (phase : Phase) (status : Status6) (found : Option PhaseEnd)
-    (given : Result PhaseEnd AuxEnd) (history : List Entry) → ((end : PhaseEnd) → found ≡ Some end → Is end)
-    → ((why : AuxEnd) → Is (Aux why)) → Concludes phase status found given history → Is (as_end given)
-conclusion_says Is phase status (Some end) given history ended failed c =
-    subst (λ (r : Result PhaseEnd AuxEnd). Is (as_end r)) (sym c.same) (ended end refl)
-conclusion_says Is phase status None given history ended failed c =
-    subst (λ (r : Result PhaseEnd AuxEnd). Is (as_end r)) (sym c.same) (failed c.why)
+-- A fact of every end that the statuses give, and of a failed transaction, is one of every end.
+module _ (Is : PhaseEnd → Type 0) (phase : Phase)
+    (ended : (statuses : List Status6) (n : ℕ) (end : PhaseEnd) → phase.ending statuses n ≡ Some end → Is end)
+    (failed : (why : AuxEnd) → Is (Aux why)) where
+  conclusion_says : (status : Status6) (statuses : List Status6) (n : ℕ) (found : Option PhaseEnd)
+      (given : Result PhaseEnd AuxEnd) (history : List Entry) → phase.ending statuses n ≡ found
+      → Concludes phase status found given history → Is (as_end given)
+  conclusion_says status statuses n (Some end) given history e c =
+      subst (λ (r : Result PhaseEnd AuxEnd). Is (as_end r)) (sym c.same) (ended statuses n end e)
+  conclusion_says status statuses n None given history e c =
+      subst (λ (r : Result PhaseEnd AuxEnd). Is (as_end r)) (sym c.same) (failed c.why)
 
-last_read_says : (Is : PhaseEnd → Type 0) (phase : Phase) (ending : Status6 → Option PhaseEnd)
-    (middle : Result Status6 AuxEnd) (given : Result PhaseEnd AuxEnd) (back : List Entry)
-    → ((status : Status6) (end : PhaseEnd) → ending status ≡ Some end → Is end) → ((why : AuxEnd) → Is (Aux why))
-    → MatchResult middle (λ status. Concludes phase status (ending status) given back)
-    (λ error. (given ≡ Err error) × (back ≡ [])) → Is (as_end given)
-last_read_says Is phase ending (Ok status) given back ended failed on =
-    conclusion_says Is phase status (ending status) given back (ended status) failed on
-last_read_says Is phase ending (Err error) given back ended failed on =
-    subst (λ (r : Result PhaseEnd AuxEnd). Is (as_end r)) (sym on.0) (failed error)
+  last_read_says : (statuses : List Status6) (middle : Result Status6 AuxEnd) (given : Result PhaseEnd AuxEnd)
+      (back : List Entry)
+      → MatchResult middle
+      (λ status. Concludes phase status (phase.ending (statuses ++ status ∷ []) (length statuses + 1)) given back)
+      (λ error. (given ≡ Err error) × (back ≡ []))
+      → Is (as_end given)
+  last_read_says statuses (Ok status) given back on =
+      conclusion_says status (statuses ++ status ∷ []) (length statuses + 1) _ given back refl on
+  last_read_says statuses (Err error) given back on =
+      subst (λ (r : Result PhaseEnd AuxEnd). Is (as_end r)) (sym on.0) (failed error)
 
-rounds_say : (Is : PhaseEnd → Type 0) (phase : Phase) (given : Result PhaseEnd AuxEnd) (history : List Entry)
-    → ((statuses : List Status6) (n : ℕ) (end : PhaseEnd) → phase.ending statuses n ≡ Some end → Is end)
-    → ((why : AuxEnd) → Is (Aux why)) → Follows phase given history → Is (as_end given)
-rounds_say Is phase given history ended failed f =
-    last_read_says Is phase _ f.ends.middle given f.ends.back (λ status end e. ended _ _ end e) failed f.ends.goes_on
+  rounds_say : (given : Result PhaseEnd AuxEnd) (history : List Entry) → Follows phase given history → Is (as_end given)
+  rounds_say given history f = last_read_says f.statuses f.ends.middle given f.ends.back f.ends.goes_on
 
-start_says : (Is : PhaseEnd → Type 0) (phase : Phase) (middle : Result ⊤ AuxEnd) (given : Result PhaseEnd AuxEnd)
-    (back : List Entry) → ((statuses : List Status6) (n : ℕ) (end : PhaseEnd) → phase.ending statuses n ≡ Some end
-    → Is end) → ((why : AuxEnd) → Is (Aux why))
-    → MatchResult middle (λ written. Follows phase given back) (λ error. (given ≡ Err error) × (back ≡ []))
-    → Is (as_end given)
-start_says Is phase (Ok written) given back ended failed on = rounds_say Is phase given back ended failed on
-start_says Is phase (Err error) given back ended failed on =
-    subst (λ (r : Result PhaseEnd AuxEnd). Is (as_end r)) (sym on.0) (failed error)
+  start_says : (middle : Result ⊤ AuxEnd) (given : Result PhaseEnd AuxEnd) (back : List Entry)
+      → MatchResult middle (λ written. Follows phase given back) (λ error. (given ≡ Err error) × (back ≡ []))
+      → Is (as_end given)
+  start_says (Ok written) given back on = rounds_say given back on
+  start_says (Err error) given back on =
+      subst (λ (r : Result PhaseEnd AuxEnd). Is (as_end r)) (sym on.0) (failed error)
 
-pub takes_always : (Is : PhaseEnd → Type 0) (phase : Phase) (chosen : Pattern) (drive : List ℕ)
-    → ((statuses : List Status6) (n : ℕ) (end : PhaseEnd) → phase.ending statuses n ≡ Some end → Is end)
-    → ((why : AuxEnd) → Is (Aux why)) → ResultsAre (Takes phase chosen drive) Is
-takes_always Is phase chosen drive ended failed given history t =
-    subst Is (sym t.same) (start_says Is phase t.done.middle t.result t.done.back ended failed t.done.goes_on)
+  pub takes_always : (chosen : Pattern) (drive : List ℕ) → ResultsAre (Takes phase chosen drive) Is
+  takes_always chosen drive given history t =
+      subst Is (sym t.same) (start_says t.done.middle t.result t.done.back t.done.goes_on)

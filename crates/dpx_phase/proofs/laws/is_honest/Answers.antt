@@ -5,11 +5,11 @@ use Rattle.dpx_phase.proofs.laws.is_honest.Goals as goal
 
 pub returns-clause-recovery : goal.returns-clause-recovery
 unfolding Recovery
-returns-clause-recovery c = takes_always (EndsRecovery c.args.link.lanes) _ _ _ (recovery_honest c.args.link.lanes)
-    (λ why. tt)
+returns-clause-recovery c =
+    takes_always (EndsRecovery c.args.link.lanes) _ (recovery_honest c.args.link.lanes) (λ why. tt) _ _
 
 pub returns-clause-equalisation : goal.returns-clause-equalisation
 unfolding Equalisation
 returns-clause-equalisation c =
-    takes_always (EndsEqualisation c.args.link.lanes) _ _ _
-    (equalisation_honest c.args.link.lanes c.args.drive.registers) (λ why. tt)
+    takes_always (EndsEqualisation c.args.link.lanes) _
+    (equalisation_honest c.args.link.lanes c.args.drive.registers) (λ why. tt) _ _
