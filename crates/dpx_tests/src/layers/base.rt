@@ -49,10 +49,9 @@ fn lanes_are_one_two_or_four(rt: HostRuntime) {
 
 #[test]
 fn every_lane_looks_at_the_lanes_in_use(rt: HostRuntime) {
-    let cases = [(Lanes::One, 1), (Lanes::Two, 2), (Lanes::Four, 4)];
-    for (lanes, count) in cases {
-        assert!(rt; lanes.every_lane(|lane| lane < count), "{lanes:?}");
-        assert!(rt; !lanes.every_lane(|lane| lane + 1 < count), "{lanes:?}");
+    for (lanes, last) in [(Lanes::One, 0), (Lanes::Two, 1), (Lanes::Four, 3)] {
+        assert!(rt; lanes.every_lane(|lane| lane <= last), "{lanes:?}");
+        assert!(rt; !lanes.every_lane(|lane| lane < last), "{lanes:?}");
     }
 }
 
