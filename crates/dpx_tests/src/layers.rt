@@ -8,6 +8,7 @@ use std::process::Abort;
 
 mod aux;
 mod base;
+mod buffer;
 mod dpcd;
 mod files;
 mod link;
