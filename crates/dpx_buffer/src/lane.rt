@@ -25,7 +25,8 @@ impl<const C: usize> Model for Lane<C> {
 
     ghost view = { λ a. record { bits = a.packer; waiting = a.waiting.items } };
 
-    ghost invariant = { λ a. (a.waiting.capacity ≡ ring_capacity) × (length a.waiting.items ≤ ring_capacity) × (length a.packer < 8) };
+    ghost invariant = { λ a. (a.waiting.capacity ≡ ring_capacity)
+        × (length a.waiting.items ≤ ring_capacity) × (length a.packer < 8) };
 }
 
 /// The bytes that fit a lane's ring.

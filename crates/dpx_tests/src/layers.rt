@@ -9,6 +9,7 @@ use std::process::Abort;
 mod attributes;
 mod aux;
 mod base;
+mod buffer;
 mod code;
 mod dpcd;
 mod files;

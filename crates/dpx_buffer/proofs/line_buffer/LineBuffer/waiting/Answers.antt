@@ -1,4 +1,4 @@
-use Rattle.std.proofs.Common.{◌≡◌, length, ap, arith}
+use Rattle.std.proofs.Common.{length, ap, arith}
 use Rattle.dpx_timing.proofs.Sizes.{plan_possible}
 use Rattle.dpx_buffer.specs.Lane.{lane_of}
 use Rattle.dpx_buffer.proofs.Room.{waiting_count}
