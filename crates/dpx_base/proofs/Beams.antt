@@ -10,9 +10,9 @@ use Rattle.dpx_base.specs.declared.link.Link.{Link}
 use Rattle.dpx_base.specs.declared.rate.Rate.{Rate}
 use Rattle.dpx_base.specs.declared.rate.Rate.TheVariants.{Rbr, Hbr, Hbr2, Hbr3}
 use Rattle.dpx_base.specs.Beam.{Shown, IsCarried, pixels_among, ticks_before, pixels_before, pixels_in}
-use Rattle.dpx_base.specs.Lanes.{count_of}
+use Rattle.dpx_base.specs.Lanes.{lanes_count}
 use Rattle.dpx_base.specs.Mode.{ModeFacts, pixel_bits}
-use Rattle.dpx_base.specs.Rate.{clock_of}
+use Rattle.dpx_base.specs.Rate.{rate_clock_khz}
 use Rattle.dpx_base.specs.Scan.{Scanned, Beaming, IsBeam}
 use Rattle.dpx_base.specs.Timing.{floor_div}
 use Rattle.dpx_base.proofs.Pixels.{pixels_join, pixels_none}
@@ -32,18 +32,18 @@ depth_from Ten = omega arith
 depth_from Twelve = omega arith
 depth_from Sixteen = omega arith
 
-lanes_to : (lanes : Lanes) → count_of lanes ≤ 4
+lanes_to : (lanes : Lanes) → lanes_count lanes ≤ 4
 lanes_to One = omega arith
 lanes_to Two = omega arith
 lanes_to Four = omega arith
 
-pub clock_from : (rate : Rate) → 162000 ≤ clock_of rate
+pub clock_from : (rate : Rate) → 162000 ≤ rate_clock_khz rate
 clock_from Rbr = omega arith
 clock_from Hbr = omega arith
 clock_from Hbr2 = omega arith
 clock_from Hbr3 = omega arith
 
-pub clock_to : (rate : Rate) → clock_of rate ≤ 810000
+pub clock_to : (rate : Rate) → rate_clock_khz rate ≤ 810000
 clock_to Rbr = omega arith
 clock_to Hbr = omega arith
 clock_to Hbr2 = omega arith
@@ -56,24 +56,24 @@ few f bits lanes g b l h =
     omega (arith, x, y, h)
 
 -- no clock has more than two ticks
-pub two_ticks : (mode : ModeFacts) (link : Link) → IsCarried mode link → mode.clock_khz ≤ 2 * clock_of link.rate
+pub two_ticks : (mode : ModeFacts) (link : Link) → IsCarried mode link → mode.clock_khz ≤ 2 * rate_clock_khz link.rate
 two_ticks mode link h = few _ _ _ _ (depth_from mode.depth) (lanes_to link.lanes) h
 
 now_is : (b : Beaming) (s : Scanned) (spare : ℕ) → IsBeam b s spare → ticks_before b.shown b.clock ≡ s.tick
 unfolding ticks_before
 now_is b s spare beam =
-    floor_is (b.clock * b.shown.mode.clock_khz) (clock_of b.shown.link.rate) s.tick (omega (arith, beam.spare_is)) (omega (arith, beam.spare_is, beam.spare_below))
+    floor_is (b.clock * b.shown.mode.clock_khz) (rate_clock_khz b.shown.link.rate) s.tick (omega (arith, beam.spare_is)) (omega (arith, beam.spare_is, beam.spare_below))
 
 -- a clock on, where the next ticks leave this rest
 pub record IsDue (b : Beaming) (spare ticks rest : ℕ) : Type 0 where
-  pub below : rest < clock_of b.shown.link.rate
-  pub due : spare + b.shown.mode.clock_khz ≡ clock_of b.shown.link.rate * ticks + rest
+  pub below : rest < rate_clock_khz b.shown.link.rate
+  pub due : spare + b.shown.mode.clock_khz ≡ rate_clock_khz b.shown.link.rate * ticks + rest
 
 next_is : (b : Beaming) (s : Scanned) (spare ticks rest : ℕ) → IsBeam b s spare → IsDue b spare ticks rest
     → ticks_before b.shown (b.clock + 1) ≡ s.tick + ticks
 unfolding ticks_before
 next_is b s spare ticks rest beam due =
-    floor_is ((b.clock + 1) * b.shown.mode.clock_khz) (clock_of b.shown.link.rate) (s.tick + ticks) (omega (arith, beam.spare_is, due.due)) (omega (arith, beam.spare_is, due.due, due.below))
+    floor_is ((b.clock + 1) * b.shown.mode.clock_khz) (rate_clock_khz b.shown.link.rate) (s.tick + ticks) (omega (arith, beam.spare_is, due.due)) (omega (arith, beam.spare_is, due.due, due.below))
 
 pub pixels_due : (b : Beaming) (s : Scanned) (spare ticks rest : ℕ) → IsBeam b s spare → IsDue b spare ticks rest
     → pixels_in b.shown b.clock ≡ pixels_among s.mode s.frames s.tick ticks
@@ -83,7 +83,7 @@ pixels_due b s spare ticks rest beam due =
     let d : ticks_before b.shown (b.clock + 1) - ticks_before b.shown b.clock ≡ ticks = omega (arith, now, next_is b s spare ticks rest beam due) in
     rw (d, now, beam.mode, beam.frames) refl
 
-pub due_at : (b : Beaming) (spare due g : ℕ) → due ≡ spare + b.shown.mode.clock_khz → g ≡ clock_of b.shown.link.rate
+pub due_at : (b : Beaming) (spare due g : ℕ) → due ≡ spare + b.shown.mode.clock_khz → g ≡ rate_clock_khz b.shown.link.rate
     → IsDue b spare (due / g) (due % g)
 due_at b spare due g d e =
     let pos : 0 < g = omega (arith, e, clock_from b.shown.link.rate) in
@@ -94,13 +94,13 @@ due_at b spare due g d e =
 
 pub few_ticks : (b : Beaming) (s : Scanned) (spare ticks rest : ℕ) → IsBeam b s spare → IsDue b spare ticks rest → ticks ≤ 2
 few_ticks b s spare ticks rest beam due =
-    let less : clock_of b.shown.link.rate * ticks < clock_of b.shown.link.rate * 3 = omega (arith, due.due, beam.two, beam.spare_below) in
-    omega (arith, lt_of_mul-lt-mul_left (clock_of b.shown.link.rate) less)
+    let less : rate_clock_khz b.shown.link.rate * ticks < rate_clock_khz b.shown.link.rate * 3 = omega (arith, due.due, beam.two, beam.spare_below) in
+    omega (arith, lt_of_mul-lt-mul_left (rate_clock_khz b.shown.link.rate) less)
 
 ticks_small : (b : Beaming) (s : Scanned) (spare : ℕ) → IsBeam b s spare → s.tick ≤ 2 * b.clock
 ticks_small b s spare beam =
-    let x : b.clock * b.shown.mode.clock_khz ≤ b.clock * (2 * clock_of b.shown.link.rate) = mul-le-mul_left b.clock beam.two in
-    le_of_mul-le-mul_left {k = clock_of b.shown.link.rate} (omega (arith, beam.spare_is, x)) (omega (arith, clock_from b.shown.link.rate))
+    let x : b.clock * b.shown.mode.clock_khz ≤ b.clock * (2 * rate_clock_khz b.shown.link.rate) = mul-le-mul_left b.clock beam.two in
+    le_of_mul-le-mul_left {k = rate_clock_khz b.shown.link.rate} (omega (arith, beam.spare_is, x)) (omega (arith, clock_from b.shown.link.rate))
 
 pub room : (b : Beaming) (s : Scanned) (spare ticks rest : ℕ) → IsBeam b s spare → IsDue b spare ticks rest → b.clock < 2 ^ 62 → s.tick + ticks ≤ 2 ^ 63
 room b s spare ticks rest beam due less = omega (arith, few_ticks b s spare ticks rest beam due, ticks_small b s spare beam, less)
@@ -138,4 +138,4 @@ pixels_step s clock =
 pub pixels_first : (s : Shown) → pixels_before s 0 ≡ 0
 unfolding pixels_before ticks_before
 pixels_first s =
-    rw (floor_is (0 * s.mode.clock_khz) (clock_of s.link.rate) 0 (omega arith) (omega (arith, clock_from s.link.rate))) (pixels_none s.mode s.frames 0)
+    rw (floor_is (0 * s.mode.clock_khz) (rate_clock_khz s.link.rate) 0 (omega arith) (omega (arith, clock_from s.link.rate))) (pixels_none s.mode s.frames 0)

@@ -5,7 +5,7 @@ use Rattle.std.specs.List.{range_with_len}
 use Rattle.dpx_base.specs.declared.link.Link.{Link}
 use Rattle.dpx_base.specs.declared.pixel.Pixel.{Pixel}
 use Rattle.dpx_base.specs.Attributes.{two_bytes}
-use Rattle.dpx_base.specs.Lanes.{count_of}
+use Rattle.dpx_base.specs.Lanes.{lanes_count}
 use Rattle.dpx_base.specs.Plan.{PlanFacts, clocks}
 use Rattle.dpx_base.specs.Rate.{code_of}
 use Rattle.dpx_base.specs.Sets.{sets}
@@ -14,7 +14,7 @@ use Rattle.dpx_base.specs.Words.{SentWords, words_of}
 -- DPX1, the number of lanes, the rate, the framing, and 00
 abbrev pub header_bytes : Link → List ℕ
 header_bytes link =
-    0x44 ∷ 0x50 ∷ 0x58 ∷ 0x31 ∷ count_of link.lanes ∷ code_of link.rate ∷ (if link.enhanced then 1 else 0) ∷ 0 ∷ []
+    0x44 ∷ 0x50 ∷ 0x58 ∷ 0x31 ∷ lanes_count link.lanes ∷ code_of link.rate ∷ (if link.enhanced then 1 else 0) ∷ 0 ∷ []
 
 -- Word k of a capture: clock by clock, and lane by lane within a clock
 abbrev pub word_at : (lanes : ℕ) → (words : List (List ℕ)) → (k : ℕ) → ℕ
@@ -36,10 +36,10 @@ words_in lanes clocks bytes =
 
 -- the clocks of a capture: those of the sets, and two for each lane but the first
 abbrev pub capture_clocks : PlanFacts → ℕ
-capture_clocks p = clocks p + 2 * (count_of p.link.lanes - 1)
+capture_clocks p = clocks p + 2 * (lanes_count p.link.lanes - 1)
 
 -- the capture of a plan's frames with these pixels
 pub record IsCapture (p : PlanFacts) (pixels : List Pixel) (bytes : List ℕ) : Type 0 where
   pub words : List (List ℕ)
-  pub sent : SentWords (count_of p.link.lanes) (sets p pixels) words
-  pub bytes_are : bytes ≡ header_bytes p.link ++ word_bytes (count_of p.link.lanes) (capture_clocks p) words
+  pub sent : SentWords (lanes_count p.link.lanes) (sets p pixels) words
+  pub bytes_are : bytes ≡ header_bytes p.link ++ word_bytes (lanes_count p.link.lanes) (capture_clocks p) words

@@ -2,7 +2,7 @@
 use Rattle.std.specs.Prelude.{ℕ, ◌+◌, ◌*◌, ◌<◌, ◌≤◌, ◌≡◌}
 use Rattle.dpx_base.specs.Beam.{Shown}
 use Rattle.dpx_base.specs.Mode.{ModeFacts, IsLegal}
-use Rattle.dpx_base.specs.Rate.{clock_of}
+use Rattle.dpx_base.specs.Rate.{rate_clock_khz}
 
 pub record Scanned : Type 0 where
   pub mode : ModeFacts
@@ -24,6 +24,6 @@ pub record Beaming : Type 0 where
 pub record IsBeam (b : Beaming) (s : Scanned) (spare : ℕ) : Type 0 where
   pub mode : s.mode ≡ b.shown.mode
   pub frames : s.frames ≡ b.shown.frames
-  pub spare_below : spare < clock_of b.shown.link.rate
-  pub spare_is : b.clock * b.shown.mode.clock_khz ≡ clock_of b.shown.link.rate * s.tick + spare
-  pub two : b.shown.mode.clock_khz ≤ 2 * clock_of b.shown.link.rate
+  pub spare_below : spare < rate_clock_khz b.shown.link.rate
+  pub spare_is : b.clock * b.shown.mode.clock_khz ≡ rate_clock_khz b.shown.link.rate * s.tick + spare
+  pub two : b.shown.mode.clock_khz ≤ 2 * rate_clock_khz b.shown.link.rate

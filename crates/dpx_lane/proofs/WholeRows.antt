@@ -8,7 +8,7 @@ use Rattle.std.proofs.lemmas.List.{length-replicate, replicate-append-replicate,
 use Rattle.dpx_base.specs.Capture.{IsCapture, header_bytes, word_bytes, capture_clocks}
 use Rattle.dpx_base.specs.Code.{Coded}
 use Rattle.dpx_base.specs.Key.{Keyed}
-use Rattle.dpx_base.specs.Lanes.{count_of}
+use Rattle.dpx_base.specs.Lanes.{lanes_count}
 use Rattle.dpx_base.specs.Plan.{PlanFacts}
 use Rattle.dpx_base.specs.Sets.{sets}
 use Rattle.dpx_base.specs.Words.{fill, column, words_of, lane_row, LaneWords, SentWords}
@@ -107,7 +107,7 @@ sent_once lanes sets one other h k =
 pub capture_once : (p : PlanFacts) (pixels : List Pixel) (one other : List ℕ)
     → IsCapture p pixels one → IsCapture p pixels other → one ≡ other
 capture_once p pixels one other h k =
-    let lanes = count_of p.link.lanes in
+    let lanes = lanes_count p.link.lanes in
     let bytes : List (List ℕ) → List ℕ =
     λ words. header_bytes p.link ++ word_bytes lanes (capture_clocks p) words in
     h.bytes_are ∙ (ap bytes (sent_once lanes (sets p pixels) h.words k.words h.sent k.sent) ∙ sym k.bytes_are)

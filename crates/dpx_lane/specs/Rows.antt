@@ -1,7 +1,7 @@
 -- The rows of the lanes: this project's own.
 use Rattle.std.specs.Prelude.{ℕ, ◌+◌, ◌*◌, List, [], ◌∷◌, map, replicate, slice_index, slice_index_or}
 use Rattle.std.specs.List.{range_with_len}
-use Rattle.dpx_base.specs.Lanes.{count_of}
+use Rattle.dpx_base.specs.Lanes.{lanes_count}
 use Rattle.dpx_base.specs.Words.{words_of}
 use Rattle.dpx_base.specs.declared.lanes.Lanes.{Lanes}
 use Rattle.dpx_base.specs.declared.lanes.Lanes.TheVariants.{One, Two, Four}
@@ -14,7 +14,7 @@ pub record RowsFacts : Type 0 where
 
 -- rows that hold no clock
 abbrev pub no_rows : Lanes → RowsFacts
-no_rows lanes = record { lanes = lanes; rows = replicate (count_of lanes) []; clocks = 0 }
+no_rows lanes = record { lanes = lanes; rows = replicate (lanes_count lanes) []; clocks = 0 }
 
 -- of what four lanes have, what the lanes in use have, lane 0 first
 abbrev pub in_use : {A : Type 0} → Lanes → A → A → A → A → List A
@@ -36,4 +36,4 @@ abbrev pub lane_word : (bytes : List ℕ) → (lane : ℕ) → ℕ
 lane_word bytes lane = 256 * slice_index bytes (2 * lane) + slice_index bytes (2 * lane + 1)
 
 abbrev pub clock_words : Lanes → (bytes : List ℕ) → List ℕ
-clock_words lanes bytes = map (lane_word bytes) (range_with_len 0 (count_of lanes))
+clock_words lanes bytes = map (lane_word bytes) (range_with_len 0 (lanes_count lanes))

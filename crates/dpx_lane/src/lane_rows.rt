@@ -1,7 +1,7 @@
 ghost use Rattle.std.specs.Prelude.{◌≡◌, ◌<◌, ◌≤◌, ◌+◌, ◌*◌, ◌%◌, ◌/◌, [], ◌∷◌, ◌++◌};
 ghost use Rattle.std.specs.Prelude.{length, IfOk, vec_len, vec_capacity};
 ghost use Rattle.dpx_base.specs.Capture.{word_bytes, words_in};
-ghost use Rattle.dpx_base.specs.Lanes.{count_of};
+ghost use Rattle.dpx_base.specs.Lanes.{lanes_count};
 ghost use Rattle.dpx_lane.specs.Codes.{code_of};
 ghost use Rattle.dpx_lane.specs.Rows.{entry, lane_by_lane, clock_words, no_rows};
 
@@ -86,7 +86,7 @@ impl LaneRows {
 
     /// An entry of a lane's row.
     pub fn get(&self, lane: u8, clock: usize) -> u16
-        requires lane { lane < count_of self.now.lanes }
+        requires lane { lane < lanes_count self.now.lanes }
         requires clock { clock < self.now.clocks }
         ensures { result ≡ entry self.now lane clock }
     {
@@ -101,7 +101,7 @@ impl LaneRows {
     /// Puts the codes of a set behind the rows.
     pub fn push_set(&mut self, set: &LaneSet)
         requires room { self.old.clocks < 8192 }
-        requires lanes { length set.now ≡ count_of self.old.lanes }
+        requires lanes { length set.now ≡ lanes_count self.old.lanes }
         ensures { self.new ≡ record {
           lanes = self.old.lanes;
           rows = lane_by_lane (λ row sym. row ++ code_of sym ∷ []) self.old.rows set.now;
@@ -127,7 +127,7 @@ impl LaneRows {
     /// Puts the words of one clock behind the rows.
     fn push_words(&mut self, bytes: &[u8])
         requires room { self.old.clocks < 8192 }
-        requires size { length bytes.now ≡ 2 * count_of self.old.lanes }
+        requires size { length bytes.now ≡ 2 * lanes_count self.old.lanes }
         ensures { self.new ≡ record {
           lanes = self.old.lanes;
           rows = lane_by_lane (λ row word. row ++ word ∷ []) self.old.rows (clock_words self.old.lanes bytes.now);
@@ -148,8 +148,8 @@ impl LaneRows {
 
     /// Writes the entries in a capture's order: clock by clock, and lane by lane within a clock.
     pub fn write_words(&self, to: &mut [u8])
-        requires { length to.old ≡ 2 * (count_of self.now.lanes * self.now.clocks) }
-        ensures { to.new ≡ word_bytes (count_of self.now.lanes) self.now.clocks self.now.rows }
+        requires { length to.old ≡ 2 * (lanes_count self.now.lanes * self.now.clocks) }
+        ensures { to.new ≡ word_bytes (lanes_count self.now.lanes) self.now.clocks self.now.rows }
     {
         let lanes = usize::from(self.lanes.count());
         for done in 0..lanes * self.len() {
@@ -159,12 +159,12 @@ impl LaneRows {
 
     /// Replaces what the rows held by the words of these bytes, in a capture's order.
     pub fn read_words(&mut self, bytes: &[u8])
-        requires whole { length bytes.now % (2 * count_of self.old.lanes) ≡ 0 }
-        requires few { length bytes.now ≤ 2 * count_of self.old.lanes * 8192 }
+        requires whole { length bytes.now % (2 * lanes_count self.old.lanes) ≡ 0 }
+        requires few { length bytes.now ≤ 2 * lanes_count self.old.lanes * 8192 }
         ensures { self.new ≡ record {
           lanes = self.old.lanes;
-          rows = words_in (count_of self.old.lanes) (length bytes.now / (2 * count_of self.old.lanes)) bytes.now;
-          clocks = length bytes.now / (2 * count_of self.old.lanes);
+          rows = words_in (lanes_count self.old.lanes) (length bytes.now / (2 * lanes_count self.old.lanes)) bytes.now;
+          clocks = length bytes.now / (2 * lanes_count self.old.lanes);
         } }
     {
         let size = 2 * usize::from(self.lanes.count());
