@@ -1,4 +1,4 @@
-ghost use Rattle.std.specs.Prelude.{◌≡◌, ◌<◌, ◌≤◌, false, true, length, IfOk, IsErr, OnOk};
+ghost use Rattle.std.specs.Prelude.{◌≡◌, ◌<◌, ◌≤◌, false, true, length, IfOk, IsErr};
 ghost use Rattle.dpx_base.specs.Faults.{HasCause};
 
 use dpx_base::{Failed, Sink};
@@ -64,9 +64,7 @@ impl FileSink {
 impl Sink for FileSink {
     ghost use Rattle.std.specs.Prelude.{None};
 
-    ghost taken = { λ _. None };
-
-    ghost faults = { λ s. s.faults };
+    ghost seen = { λ s. record { taken = None; faults = s.faults } };
 
     /// A write that takes no byte is a fault too.
     fn write(&mut self, piece: &[u8]) -> Result<usize, Failed>
@@ -76,7 +74,6 @@ impl Sink for FileSink {
         ensures cause { HasCause self.old.faults self.new.faults result }
         ensures nothing { self.old.holds ≡ false → IsErr result }
         ensures held { self.new.holds ≡ self.old.holds }
-        ensures calm { OnOk result (self.new.faults ≡ self.old.faults) }
     {
         let count = match &mut self.target {
             Some(Target::File(file)) => file.write(piece).unwrap_or(0),

@@ -1,4 +1,4 @@
-ghost use Rattle.std.specs.Prelude.{◌≡◌, false, IsErr, OnOk};
+ghost use Rattle.std.specs.Prelude.{◌≡◌, false, IsErr};
 ghost use Rattle.std.specs.Io.{ReadsAtMost};
 ghost use Rattle.dpx_base.specs.Faults.{HasCause};
 
@@ -48,16 +48,13 @@ impl FileSource {
 impl Source for FileSource {
     ghost use Rattle.std.specs.Prelude.{None};
 
-    ghost left = { λ _. None };
-
-    ghost faults = { λ s. s.faults };
+    ghost seen = { λ s. record { left = None; faults = s.faults } };
 
     fn read(&mut self, buf: &mut [u8]) -> Result<usize, Failed>
         ensures within { ReadsAtMost result buf.new }
         ensures cause { HasCause self.old.faults self.new.faults result }
         ensures nothing { self.old.holds ≡ false → IsErr result }
         ensures held { self.new.holds ≡ self.old.holds }
-        ensures calm { OnOk result (self.new.faults ≡ self.old.faults) }
     {
         if let Some(file) = &mut self.file {
             if let Ok(count) = file.read(buf) {

@@ -12,7 +12,7 @@ use Rattle.dpx_aux.specs.declared.transaction.AuxEnd.{AuxEnd}
 use Rattle.dpx_aux.specs.declared.transaction.Heard.{Heard}
 use Rattle.dpx_aux.specs.declared.transaction.Heard.TheVariants.{InVain}
 use Rattle.dpx_aux.specs.declared.transaction.LastAnswer.{LastAnswer}
-use Rattle.dpx_aux.specs.Request.{address_of, request_bytes}
+use Rattle.dpx_aux.specs.Request.{address_of, encode_request}
 use Rattle.dpx_aux.specs.Conversation.{Converses}
 use Rattle.dpx_aux.specs.Transaction.{Transaction, Hears, IsInVain, EndsAs, heard_from, asks_at_most, asked_with}
 
@@ -32,7 +32,7 @@ AllByRecursion-push P [] y all p = (p, tt)
 AllByRecursion-push P (x ∷ xs) y all p = (all.0, AllByRecursion-push P xs y all.1 p)
 
 asked_with-push : (request : Request) (xs : List Answer) (y : Answer) → asked_with request (xs ++ y ∷ []) ≡ asked_with request xs ++ asked_with request (y ∷ [])
-asked_with-push request xs y = map-append (λ answer. Asked (request_bytes request) answer) xs (y ∷ [])
+asked_with-push request xs y = map-append (λ answer. Asked (encode_request request) answer) xs (y ∷ [])
 
 -- one more ask, and what it added in all
 added_with : {Plan : Type 0} {request : Request} {count : ℕ} {before middle now : PortState Plan} {heard : Heard} (t : Tries request count before middle) (h : Hears request middle now heard) → Added (asked_with request (t.tried ++ h.answer ∷ [])) before now

@@ -4,8 +4,8 @@ use Rattle.std.proofs.Common.{◌≡◌, ℕ, ◌+◌, ◌<◌, Bool, true, fals
 use Rattle.std.specs.List.{AllByRecursion}
 use Rattle.dpx_base.specs.declared.aux_port.Answer.{Answer}
 use Rattle.dpx_base.specs.declared.aux_port.Entry.{Entry}
-use Rattle.dpx_base.specs.Port.{answers_of}
-use Rattle.dpx_base.proofs.Port.{answers_of-append}
+use Rattle.dpx_base.specs.Port.{answers_in}
+use Rattle.dpx_base.proofs.Port.{answers_in-append}
 use Rattle.dpx_aux.specs.declared.request.Request.{Request}
 use Rattle.dpx_aux.specs.declared.transaction.AuxEnd.{AuxEnd}
 use Rattle.dpx_aux.specs.declared.transaction.Heard.{Heard}
@@ -25,26 +25,27 @@ choice_decided true y n r s xs ys later after a b e = y r s xs ys later after (a
 choice_decided false y n r s xs ys later after a b e = n r s xs ys later after (a.if_false refl) (b.if_false refl) e
 
 -- what follows a part that gave the same
-next_same : {A B E : Type 0} (next : A → Result B E → List Entry → Type 0) → ((value : A) → IsDecided (next value)) → (middle : Result A E) (r s : Result B E) (xs ys : List Entry) (later after : List Answer) → MatchResult middle (λ value. next value r xs) (λ error. (r ≡ Err error) × (xs ≡ [])) → MatchResult middle (λ value. next value s ys) (λ error. (s ≡ Err error) × (ys ≡ [])) → answers_of xs ++ later ≡ answers_of ys ++ after → (xs ≡ ys) × (r ≡ s)
+next_same : {A B E : Type 0} (next : A → Result B E → List Entry → Type 0) → ((value : A) → IsDecided (next value)) → (middle : Result A E) (r s : Result B E) (xs ys : List Entry) (later after : List Answer) → MatchResult middle (λ value. next value r xs) (λ error. (r ≡ Err error) × (xs ≡ [])) → MatchResult middle (λ value. next value s ys) (λ error. (s ≡ Err error) × (ys ≡ [])) → answers_in xs ++ later ≡ answers_in ys ++ after → (xs ≡ ys) × (r ≡ s)
 next_same next d (Ok value) r s xs ys later after a b e = d value r s xs ys later after a b e
 next_same next d (Err error) r s xs ys later after a b e = (a.1 ∙ sym b.1, a.0 ∙ sym b.0)
 
-answers_regrouped : (xs front back : List Entry) (later : List Answer) → xs ≡ front ++ back → answers_of xs ++ later ≡ answers_of front ++ (answers_of back ++ later)
+-- the answers of two histories, one behind the other
+pub answers_regrouped : (xs front back : List Entry) (later : List Answer) → xs ≡ front ++ back → answers_in xs ++ later ≡ answers_in front ++ (answers_in back ++ later)
 answers_regrouped xs front back later e =
-    ap (λ zs. answers_of zs ++ later) e ∙ (ap (λ zs. zs ++ later) (answers_of-append front back) ∙ append_assoc (answers_of front) (answers_of back) later)
+    ap (λ zs. answers_in zs ++ later) e ∙ (ap (λ zs. zs ++ later) (answers_in-append front back) ∙ append_assoc (answers_in front) (answers_in back) later)
 
 pub then_decided : {A B E : Type 0} {first : Result A E → List Entry → Type 0} {next : A → Result B E → List Entry → Type 0} → IsDecided first → ((value : A) → IsDecided (next value)) → IsDecided (first >>= next)
 then_decided {next = next} f d r s xs ys later after a b e =
     let grouped = sym (answers_regrouped xs a.front a.back later a.joined) ∙ (e ∙ answers_regrouped ys b.front b.back after b.joined) in
-    let same = f a.middle b.middle a.front b.front (answers_of a.back ++ later) (answers_of b.back ++ after) a.begins b.begins grouped in
-    let rest = append_cancel_left (answers_of a.front) (answers_of a.back ++ later) (answers_of b.back ++ after) (grouped ∙ ap (λ zs. answers_of zs ++ (answers_of b.back ++ after)) (sym same.0)) in
+    let same = f a.middle b.middle a.front b.front (answers_in a.back ++ later) (answers_in b.back ++ after) a.begins b.begins grouped in
+    let rest = append_cancel_left (answers_in a.front) (answers_in a.back ++ later) (answers_in b.back ++ after) (grouped ∙ ap (λ zs. answers_in zs ++ (answers_in b.back ++ after)) (sym same.0)) in
     let b' = subst (λ m. MatchResult m (λ value. next value s b.back) (λ error. (s ≡ Err error) × (b.back ≡ []))) (sym same.1) b.goes_on in
     let ends = next_same next d a.middle r s a.back b.back later after a.goes_on b' rest in
     (a.joined ∙ (ap (λ zs. zs ++ a.back) same.0 ∙ (ap (λ zs. b.front ++ zs) ends.0 ∙ sym b.joined)), ends.1)
 
-answers_of-asked_with : (request : Request) (answers : List Answer) → answers_of (asked_with request answers) ≡ answers
-answers_of-asked_with request [] = refl
-answers_of-asked_with request (x ∷ xs) = ap (λ ys. x ∷ ys) (answers_of-asked_with request xs)
+pub answers_in-asked_with : (request : Request) (answers : List Answer) → answers_in (asked_with request answers) ≡ answers
+answers_in-asked_with request [] = refl
+answers_in-asked_with request (x ∷ xs) = ap (λ ys. x ∷ ys) (answers_in-asked_with request xs)
 
 EndsAs-same : (address asked : ℕ) (heard : Heard) (r s : Result (List ℕ) AuxEnd) → EndsAs address asked heard r → EndsAs address asked heard s → r ≡ s
 EndsAs-same address asked (End end) r s a b = a ∙ sym b
@@ -74,8 +75,8 @@ same_asks request before (u ∷ xs) (z ∷ ys) x y later after r s m n v w a b e
 
 pub transaction_decided : (request : Request) → IsDecided (Transaction request)
 transaction_decided request r s xs ys later after a b e =
-    let left : answers_of xs ≡ a.tried ++ a.last ∷ [] = ap answers_of a.asked ∙ answers_of-asked_with request (a.tried ++ a.last ∷ []) in
-    let right : answers_of ys ≡ b.tried ++ b.last ∷ [] = ap answers_of b.asked ∙ answers_of-asked_with request (b.tried ++ b.last ∷ []) in
+    let left : answers_in xs ≡ a.tried ++ a.last ∷ [] = ap answers_in a.asked ∙ answers_in-asked_with request (a.tried ++ a.last ∷ []) in
+    let right : answers_in ys ≡ b.tried ++ b.last ∷ [] = ap answers_in b.asked ∙ answers_in-asked_with request (b.tried ++ b.last ∷ []) in
     let alike : (a.tried ++ a.last ∷ []) ++ later ≡ (b.tried ++ b.last ∷ []) ++ after = ap (λ zs. zs ++ later) (sym left) ∙ (e ∙ ap (λ zs. zs ++ after) right) in
     let same = same_asks request 0 a.tried b.tried a.last b.last later after r s (omega (arith, a.few)) (omega (arith, b.few)) a.in_vain b.in_vain (subst (λ n. EndsAs (address_of request) n (heard_from request a.last) r) (omega arith) a.ends) (subst (λ n. EndsAs (address_of request) n (heard_from request b.last) s) (omega arith) b.ends) alike in
     (a.asked ∙ (ap (λ answers. asked_with request answers) same.0 ∙ sym b.asked), same.1)

@@ -32,9 +32,9 @@ header command address count =
     (command * 16 + address / 2 ^ 16) ∷ (address / 2 ^ 8 % 2 ^ 8) ∷ (address % 2 ^ 8) ∷ (count - 1) ∷ []
 
 -- a read is command 9, a write is command 8 with its bytes behind
-abbrev pub request_bytes : Request → List ℕ
-request_bytes (Read address count) = header 9 address count
-request_bytes (Write address bytes) = header 8 address (length bytes) ++ bytes
+abbrev pub encode_request : Request → List ℕ
+encode_request (Read address count) = header 9 address count
+encode_request (Write address bytes) = header 8 address (length bytes) ++ bytes
 
 -- the address in the first three bytes
 abbrev pub address_in : ℕ → ℕ → ℕ → ℕ
@@ -59,12 +59,12 @@ write_from address last payload =
     else Err (BadLength (length payload + 4))
 
 -- what bytes stand for, or the first fault
-abbrev pub request_from : List ℕ → Result Request AuxBad
-request_from [] = Err (BadLength 0)
-request_from (a ∷ []) = Err (BadLength 1)
-request_from (a ∷ b ∷ []) = Err (BadLength 2)
-request_from (a ∷ b ∷ c ∷ []) = Err (BadLength 3)
-request_from (first ∷ middle ∷ low ∷ last ∷ payload) =
+abbrev pub read_request : List ℕ → Result Request AuxBad
+read_request [] = Err (BadLength 0)
+read_request (a ∷ []) = Err (BadLength 1)
+read_request (a ∷ b ∷ []) = Err (BadLength 2)
+read_request (a ∷ b ∷ c ∷ []) = Err (BadLength 3)
+read_request (first ∷ middle ∷ low ∷ last ∷ payload) =
     if first / 16 == 8 then write_from (address_in first middle low) last payload
     else if first / 16 == 9 then read_from (address_in first middle low) last payload
     else Err (BadCommand first)

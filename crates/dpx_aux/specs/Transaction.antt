@@ -14,8 +14,8 @@ use Rattle.dpx_aux.specs.declared.transaction.AuxEnd.TheVariants.{Refused, Spent
 use Rattle.dpx_aux.specs.declared.transaction.LastAnswer.TheVariants as last
 use Rattle.dpx_aux.specs.declared.transaction.Heard.{Heard}
 use Rattle.dpx_aux.specs.declared.transaction.Heard.TheVariants.{End, InVain}
-use Rattle.dpx_aux.specs.Request.{address_of, request_bytes}
-use Rattle.dpx_aux.specs.Reply.{reply_to}
+use Rattle.dpx_aux.specs.Request.{address_of, encode_request}
+use Rattle.dpx_aux.specs.Reply.{read_reply}
 
 -- how often a request is asked at most
 abbrev pub asks_at_most : ℕ
@@ -31,7 +31,7 @@ meaning address Malformed = InVain last.Malformed
 -- what an answer means for a request
 abbrev pub heard_from : Request → Answer → Heard
 heard_from request Silent = InVain last.Silent
-heard_from request (Bytes bytes) = meaning (address_of request) (reply_to request bytes)
+heard_from request (Bytes bytes) = meaning (address_of request) (read_reply request bytes)
 
 abbrev pub IsInVain : Heard → Type 0
 IsInVain (End result) = ⊥
@@ -39,7 +39,7 @@ IsInVain (InVain last) = ⊤
 
 -- the request was asked with these answers
 abbrev pub asked_with : Request → List Answer → List Entry
-asked_with request answers = map (λ answer. Asked (request_bytes request) answer) answers
+asked_with request answers = map (λ answer. Asked (encode_request request) answer) answers
 
 -- the request was asked once, and this is what was heard
 pub record Hears {Plan : Type 0} (request : Request) (before now : PortState Plan) (heard : Heard) : Type 0 where

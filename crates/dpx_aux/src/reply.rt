@@ -1,6 +1,6 @@
 ghost use Rattle.std.specs.Prelude.{◌≡◌, ◌≤◌, length};
 ghost use Rattle.dpx_aux.specs.Request.{IsValid};
-ghost use Rattle.dpx_aux.specs.Reply.{reply_to, acknowledgement, refusal};
+ghost use Rattle.dpx_aux.specs.Reply.{read_reply, acknowledged, nacked};
 
 use crate::request::{Data16, Request};
 
@@ -26,11 +26,11 @@ const DEFER: u8 = 0x20;
 /// asked for is this project's own rule.
 pub fn read_reply(request: &Request, bytes: &[u8]) -> Reply
     requires { IsValid request.now }
-    ensures { result ≡ reply_to request.now bytes.now }
+    ensures { result ≡ read_reply request.now bytes.now }
 {
     match bytes {
         [ACK, payload @ ..] => acknowledged(request, payload),
-        [NACK, count @ ..] => refused(request, count),
+        [NACK, count @ ..] => nacked(request, count),
         [DEFER] => Reply::Defer,
         _ => Reply::Malformed,
     }
@@ -38,7 +38,7 @@ pub fn read_reply(request: &Request, bytes: &[u8]) -> Reply
 
 fn acknowledged(request: &Request, payload: &[u8]) -> Reply
     requires { IsValid request.now }
-    ensures { result ≡ acknowledgement request.now payload.now }
+    ensures { result ≡ acknowledged request.now payload.now }
 {
     let expected = match request {
         Request::Read { length, .. } => usize::from(*length),
@@ -51,8 +51,8 @@ fn acknowledged(request: &Request, payload: &[u8]) -> Reply
     }
 }
 
-fn refused(request: &Request, count: &[u8]) -> Reply
-    ensures { result ≡ refusal request.now count.now }
+fn nacked(request: &Request, count: &[u8]) -> Reply
+    ensures { result ≡ nacked request.now count.now }
 {
     match (request, count) {
         (_, []) => Reply::Nack(0),

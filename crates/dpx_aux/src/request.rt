@@ -1,12 +1,12 @@
 ghost use Rattle.std.specs.Prelude.{◌≡◌, ◌*◌, ◌^◌, ◌<◌, ◌≤◌, ◌++◌, length, IfOk};
 ghost use Rattle.dpx_aux.specs.declared.request.Request.{Request};
-ghost use Rattle.dpx_aux.specs.Request.{IsValid, request_bytes, request_from, header, address_of};
+ghost use Rattle.dpx_aux.specs.Request.{IsValid, encode_request, read_request, header, address_of};
 
 use arrayvec::ArrayVec;
-use dpx_base::{BoundedBytes, Bytes20};
+use dpx_base::{BoundedList, Bytes20};
 
 /// The bytes that one request brings, or that its reply brings.
-pub type Data16 = BoundedBytes<16>;
+pub type Data16 = BoundedList<u8, 0, 16>;
 
 /// A native AUX request (VESA DisplayPort 1.4a, AUX transaction syntax). It is valid where it asks for
 /// or brings 1 to 16 bytes that lie within the 20 bits of an address.
@@ -38,7 +38,7 @@ const READ: u8 = 9;
 /// what a write brings.
 pub fn encode_request(request: &Request) -> Bytes20
     requires { IsValid request.now }
-    ensures { result ≡ request_bytes request.now }
+    ensures { result ≡ encode_request request.now }
 {
     match request {
         Request::Read { address, length } => encode(READ, *address, *length, &[]),
@@ -68,10 +68,10 @@ fn encode(command: u8, address: u32, count: u8, payload: &[u8]) -> Bytes20
 /// The request that the bytes stand for. A refusal names the first fault: fewer than four bytes; the
 /// command; the length; the address.
 pub fn read_request(bytes: &[u8]) -> Result<Request, AuxBad>
-    ensures exact { result ≡ request_from bytes.now }
+    ensures exact { result ≡ read_request bytes.now }
     ensures valid { IfOk result IsValid }
-    ensures reads { IfOk result (λ request. bytes.now ≡ request_bytes request) }
-    ensures all { (request : Request) → IsValid request → bytes.now ≡ request_bytes request → result ≡ Ok request }
+    ensures reads { IfOk result (λ request. bytes.now ≡ encode_request request) }
+    ensures all { (request : Request) → IsValid request → bytes.now ≡ encode_request request → result ≡ Ok request }
 {
     let [first, middle, low, last, payload @ ..] = bytes else {
         return Err(AuxBad::BadLength(bytes.len()));
@@ -104,7 +104,7 @@ pub fn read_request(bytes: &[u8]) -> Result<Request, AuxBad>
 }
 
 /// The address that the request begins at.
-pub(crate) fn address(request: &Request) -> u32
+pub(crate) fn address_of(request: &Request) -> u32
     ensures { result ≡ address_of request.now }
 {
     match request {

@@ -1,10 +1,11 @@
-ghost use Rattle.std.specs.Prelude.{◌≡◌, ◌+◌, ◌^◌, ◌<◌, ◌≤◌, length, IfOk};
-ghost use Rattle.dpx_aux.specs.Request.{IsValid, request_bytes, answered_length};
+ghost use Rattle.std.specs.Prelude.{◌≡◌, ◌<◌, length, IfOk};
+ghost use Rattle.dpx_base.specs.Asks.{CanAsk, AsksAtMost};
+ghost use Rattle.dpx_aux.specs.Request.{IsValid, encode_request, answered_length};
 ghost use Rattle.dpx_aux.specs.Conversation.{Converses};
-ghost use Rattle.dpx_aux.specs.Transaction.{Transaction, Hears, heard_from};
+ghost use Rattle.dpx_aux.specs.Transaction.{Transaction, Hears, heard_from, asks_at_most};
 
 use crate::reply::{Reply, read_reply};
-use crate::request::{Data16, Request, address, encode_request};
+use crate::request::{Data16, Request, address_of, encode_request};
 use dpx_base::{Answer, AuxPort};
 
 /// An answer that ended nothing.
@@ -38,10 +39,10 @@ const ASKS: u64 = 8;
 /// acknowledged read brought.
 pub fn transact<P: AuxPort>(port: &mut P, request: &Request) -> Result<Data16, AuxEnd>
     requires valid { IsValid request.now }
-    requires countable { (P.state port.old).asked + 8 < 2 ^ 64 }
+    requires countable { CanAsk asks_at_most (P.state port.old) }
     ensures transaction { Converses (Transaction request.now) (P.state port.old) (P.state port.new) result }
     ensures some { (P.state port.old).asked < (P.state port.new).asked }
-    ensures few { (P.state port.new).asked ≤ (P.state port.old).asked + 8 }
+    ensures few { AsksAtMost asks_at_most (P.state port.old) (P.state port.new) }
     ensures length { IfOk result (λ bytes. length bytes ≡ answered_length request.now) }
 {
     let bytes = encode_request(request);
@@ -54,7 +55,7 @@ pub fn transact<P: AuxPort>(port: &mut P, request: &Request) -> Result<Data16, A
     match ask(port, request, bytes.as_slice()) {
         Heard::End(end) => end,
         Heard::InVain(last) => Err(AuxEnd::Spent {
-            address: address(request),
+            address: address_of(request),
             last,
         }),
     }
@@ -62,15 +63,15 @@ pub fn transact<P: AuxPort>(port: &mut P, request: &Request) -> Result<Data16, A
 
 fn ask<P: AuxPort>(port: &mut P, request: &Request, bytes: &[u8]) -> Heard
     requires valid { IsValid request.now }
-    requires encoded { bytes.now ≡ request_bytes request.now }
-    requires countable { (P.state port.old).asked + 1 < 2 ^ 64 }
+    requires encoded { bytes.now ≡ encode_request request.now }
+    requires countable { CanAsk 1 (P.state port.old) }
     ensures { Hears request.now (P.state port.old) (P.state port.new) result }
 {
     let answer = port.ask(bytes);
-    hear(request, &answer)
+    heard_from(request, &answer)
 }
 
-fn hear(request: &Request, answer: &Answer) -> Heard
+fn heard_from(request: &Request, answer: &Answer) -> Heard
     requires { IsValid request.now }
     ensures { result ≡ heard_from request.now answer.now }
 {
@@ -80,7 +81,7 @@ fn hear(request: &Request, answer: &Answer) -> Heard
     match read_reply(request, bytes.as_slice()) {
         Reply::Ack(payload) => Heard::End(Ok(payload)),
         Reply::Nack(taken) => Heard::End(Err(AuxEnd::Refused {
-            address: address(request),
+            address: address_of(request),
             taken,
         })),
         Reply::Defer => Heard::InVain(LastAnswer::Defer),

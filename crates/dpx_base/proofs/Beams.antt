@@ -1,7 +1,7 @@
 -- The ticks before a clock are those that were scanned.
-use Rattle.std.proofs.Common.{ℕ, suc, ◌+◌, ◌-◌, ◌*◌, ◌/◌, ◌%◌, ◌^◌, ◌<◌, ◌≤◌, ◌≡◌, arith, ap, refl, ◌∙◌}
-use Rattle.std.proofs.Math.Nat.{zero-add, mul-le-mul_left, le_of_mul-le-mul_left, lt_of_mul-lt-mul_left, mul-div-le, div-lt_iff_lt-mul, le-div_iff_mul-le, div-add-mod}
-use Rattle.std.proofs.lemmas.Nat.{mod_below}
+use Rattle.std.proofs.Common.{ℕ, suc, ◌+◌, ◌-◌, ◌*◌, ◌/◌, ◌^◌, ◌<◌, ◌≤◌, ◌≡◌, arith, ap, refl, ◌∙◌}
+use Rattle.std.proofs.Math.Nat.{zero-add, mul-le-mul_left, le_of_mul-le-mul_left, lt_of_mul-lt-mul_left, mul-div-le}
+use Rattle.std.proofs.Math.Nat.{div-lt_iff_lt-mul, le-div_iff_mul-le}
 use Rattle.dpx_base.specs.declared.depth.Depth.{Depth}
 use Rattle.dpx_base.specs.declared.depth.Depth.TheVariants.{Six, Eight, Ten, Twelve, Sixteen}
 use Rattle.dpx_base.specs.declared.lanes.Lanes.{Lanes}
@@ -62,7 +62,8 @@ two_ticks mode link h = few _ _ _ _ (depth_from mode.depth) (lanes_to link.lanes
 now_is : (b : Beaming) (s : Scanned) (spare : ℕ) → IsBeam b s spare → ticks_before b.shown b.clock ≡ s.tick
 unfolding ticks_before
 now_is b s spare beam =
-    floor_is (b.clock * b.shown.mode.clock_khz) (rate_clock_khz b.shown.link.rate) s.tick (omega (arith, beam.spare_is)) (omega (arith, beam.spare_is, beam.spare_below))
+    floor_is (b.clock * b.shown.mode.clock_khz) (rate_clock_khz b.shown.link.rate) s.tick (omega (arith, beam.spare_is))
+    (omega (arith, beam.spare_is, beam.spare_below))
 
 -- a clock on, where the next ticks leave this rest
 pub record IsDue (b : Beaming) (spare ticks rest : ℕ) : Type 0 where
@@ -73,37 +74,43 @@ next_is : (b : Beaming) (s : Scanned) (spare ticks rest : ℕ) → IsBeam b s sp
     → ticks_before b.shown (b.clock + 1) ≡ s.tick + ticks
 unfolding ticks_before
 next_is b s spare ticks rest beam due =
-    floor_is ((b.clock + 1) * b.shown.mode.clock_khz) (rate_clock_khz b.shown.link.rate) (s.tick + ticks) (omega (arith, beam.spare_is, due.due)) (omega (arith, beam.spare_is, due.due, due.below))
+    floor_is ((b.clock + 1) * b.shown.mode.clock_khz) (rate_clock_khz b.shown.link.rate) (s.tick + ticks)
+    (omega (arith, beam.spare_is, due.due)) (omega (arith, beam.spare_is, due.due, due.below))
 
 pub pixels_due : (b : Beaming) (s : Scanned) (spare ticks rest : ℕ) → IsBeam b s spare → IsDue b spare ticks rest
     → pixels_in b.shown b.clock ≡ pixels_among s.mode s.frames s.tick ticks
 unfolding pixels_in
 pixels_due b s spare ticks rest beam due =
     let now = now_is b s spare beam in
-    let d : ticks_before b.shown (b.clock + 1) - ticks_before b.shown b.clock ≡ ticks = omega (arith, now, next_is b s spare ticks rest beam due) in
+    let d : ticks_before b.shown (b.clock + 1) - ticks_before b.shown b.clock ≡ ticks =
+    omega (arith, now, next_is b s spare ticks rest beam due) in
     rw (d, now, beam.mode, beam.frames) refl
 
-pub due_at : (b : Beaming) (spare due g : ℕ) → due ≡ spare + b.shown.mode.clock_khz → g ≡ rate_clock_khz b.shown.link.rate
-    → IsDue b spare (due / g) (due % g)
-due_at b spare due g d e =
-    let pos : 0 < g = omega (arith, e, clock_from b.shown.link.rate) in
-    record {
-      below = rw (← e) (mod_below due g pos);
-      due = rw (← e) (omega (arith, d, div-add-mod due g));
-    }
+pub due_within : (b : Beaming) (spare f g ticks : ℕ) → f ≡ b.shown.mode.clock_khz → g ≡ rate_clock_khz b.shown.link.rate
+    → g * ticks ≤ spare + f → spare + f < g * ticks + g → IsDue b spare ticks (spare + f - g * ticks)
+due_within b spare f g ticks f_is g_is below whole = record {
+  below = rw (← g_is) (omega (arith, below, whole));
+  due = rw (← f_is, ← g_is) (omega (arith, below));
+}
 
-pub few_ticks : (b : Beaming) (s : Scanned) (spare ticks rest : ℕ) → IsBeam b s spare → IsDue b spare ticks rest → ticks ≤ 2
+pub few_ticks : (b : Beaming) (s : Scanned) (spare ticks rest : ℕ) → IsBeam b s spare → IsDue b spare ticks rest
+    → ticks ≤ 2
 few_ticks b s spare ticks rest beam due =
-    let less : rate_clock_khz b.shown.link.rate * ticks < rate_clock_khz b.shown.link.rate * 3 = omega (arith, due.due, beam.two, beam.spare_below) in
+    let less : rate_clock_khz b.shown.link.rate * ticks < rate_clock_khz b.shown.link.rate * 3 =
+    omega (arith, due.due, beam.two, beam.spare_below) in
     omega (arith, lt_of_mul-lt-mul_left (rate_clock_khz b.shown.link.rate) less)
 
 ticks_small : (b : Beaming) (s : Scanned) (spare : ℕ) → IsBeam b s spare → s.tick ≤ 2 * b.clock
 ticks_small b s spare beam =
-    let x : b.clock * b.shown.mode.clock_khz ≤ b.clock * (2 * rate_clock_khz b.shown.link.rate) = mul-le-mul_left b.clock beam.two in
-    le_of_mul-le-mul_left {k = rate_clock_khz b.shown.link.rate} (omega (arith, beam.spare_is, x)) (omega (arith, clock_from b.shown.link.rate))
+    let x : b.clock * b.shown.mode.clock_khz ≤ b.clock * (2 * rate_clock_khz b.shown.link.rate) =
+    mul-le-mul_left b.clock beam.two in
+    le_of_mul-le-mul_left {k = rate_clock_khz b.shown.link.rate} (omega (arith, beam.spare_is, x))
+    (omega (arith, clock_from b.shown.link.rate))
 
-pub room : (b : Beaming) (s : Scanned) (spare ticks rest : ℕ) → IsBeam b s spare → IsDue b spare ticks rest → b.clock < 2 ^ 62 → s.tick + ticks ≤ 2 ^ 63
-room b s spare ticks rest beam due less = omega (arith, few_ticks b s spare ticks rest beam due, ticks_small b s spare beam, less)
+pub room : (b : Beaming) (s : Scanned) (spare ticks rest : ℕ) → IsBeam b s spare → IsDue b spare ticks rest
+    → b.clock < 2 ^ 62 → s.tick + ticks ≤ 2 ^ 63
+room b s spare ticks rest beam due less = omega
+    (arith, few_ticks b s spare ticks rest beam due, ticks_small b s spare beam, less)
 
 pub next_beam : (b : Beaming) (s t : Scanned) (spare ticks rest : ℕ) → IsBeam b s spare → IsDue b spare ticks rest
     → t ≡ record s { tick = s.tick + ticks } → IsBeam (record b { clock = b.clock + 1 }) t rest
@@ -138,4 +145,6 @@ pixels_step s clock =
 pub pixels_first : (s : Shown) → pixels_before s 0 ≡ 0
 unfolding pixels_before ticks_before
 pixels_first s =
-    rw (floor_is (0 * s.mode.clock_khz) (rate_clock_khz s.link.rate) 0 (omega arith) (omega (arith, clock_from s.link.rate))) (pixels_none s.mode s.frames 0)
+    rw (floor_is (0 * s.mode.clock_khz) (rate_clock_khz s.link.rate) 0 (omega arith)
+    (omega (arith, clock_from s.link.rate)))
+    (pixels_none s.mode s.frames 0)

@@ -1,5 +1,6 @@
 -- A tick's frame, row and column.
-use Rattle.std.proofs.Common.{ℕ, zero, suc, Bool, true, false, ◌+◌, ◌-◌, ◌*◌, ◌/◌, ◌%◌, ◌<◌, ◌≤◌, ◌≡◌, ◌&&◌, nat_lt, nat_le, if◌then◌else◌, arith, inl, inr, refl, add-one}
+use Rattle.std.proofs.Common.{ℕ, zero, suc, Bool, true, false, ◌+◌, ◌-◌, ◌*◌, ◌/◌, ◌%◌, ◌<◌, ◌≤◌, ◌≡◌, ◌&&◌, nat_lt}
+use Rattle.std.proofs.Common.{nat_le, if◌then◌else◌, arith, inl, inr, refl, add-one}
 use Rattle.std.proofs.Math.Nat.{mul-le-mul_right, add_assoc, add-zero}
 use Rattle.std.proofs.lemmas.Bool.{cases_lt}
 use Rattle.std.proofs.lemmas.Bool.Decides.{nat_tests}
@@ -8,20 +9,26 @@ use Rattle.dpx_base.specs.Beam.{is_pixel, pixels_among}
 use Rattle.dpx_base.specs.Mode.{ModeFacts}
 use Rattle.dpx_base.specs.Scan.{Scanned, IsScan}
 
-line_is : (s : Scanned) (frame row column : ℕ) → IsScan s frame row column → s.tick / s.mode.htotal ≡ frame * s.mode.vtotal + row
-line_is s frame row column scan = rw scan.tick_is (div-mul-add (frame * s.mode.vtotal + row) s.mode.htotal column scan.column_below)
+line_is : (s : Scanned) (frame row column : ℕ) → IsScan s frame row column
+    → s.tick / s.mode.htotal ≡ frame * s.mode.vtotal + row
+line_is s frame row column scan = rw scan.tick_is
+    (div-mul-add (frame * s.mode.vtotal + row) s.mode.htotal column scan.column_below)
 
 column_is : (s : Scanned) (frame row column : ℕ) → IsScan s frame row column → s.tick % s.mode.htotal ≡ column
-column_is s frame row column scan = rw scan.tick_is (mod-mul-add (frame * s.mode.vtotal + row) s.mode.htotal column scan.column_below)
+column_is s frame row column scan = rw scan.tick_is
+    (mod-mul-add (frame * s.mode.vtotal + row) s.mode.htotal column scan.column_below)
 
 row_is : (s : Scanned) (frame row column : ℕ) → IsScan s frame row column → s.tick / s.mode.htotal % s.mode.vtotal ≡ row
-row_is s frame row column scan = rw (line_is s frame row column scan) (mod-mul-add frame s.mode.vtotal row scan.row_below)
+row_is s frame row column scan = rw (line_is s frame row column scan)
+    (mod-mul-add frame s.mode.vtotal row scan.row_below)
 
-line_inside : (s : Scanned) (frame row column : ℕ) → IsScan s frame row column → frame < s.frames → s.tick / s.mode.htotal < s.frames * s.mode.vtotal
+line_inside : (s : Scanned) (frame row column : ℕ) → IsScan s frame row column → frame < s.frames
+    → s.tick / s.mode.htotal < s.frames * s.mode.vtotal
 line_inside s frame row column scan h =
     omega (arith, line_is s frame row column scan, mul-le-mul_right s.mode.vtotal h, scan.row_below)
 
-line_past : (s : Scanned) (frame row column : ℕ) → IsScan s frame row column → s.frames ≤ frame → s.frames * s.mode.vtotal ≤ s.tick / s.mode.htotal
+line_past : (s : Scanned) (frame row column : ℕ) → IsScan s frame row column → s.frames ≤ frame
+    → s.frames * s.mode.vtotal ≤ s.tick / s.mode.htotal
 line_past s frame row column scan h = omega (arith, line_is s frame row column scan, mul-le-mul_right s.mode.vtotal h)
 
 -- two tests that agree, both passed or both failed
@@ -41,14 +48,16 @@ frame_test s frame row column scan = elim (cases_lt frame s.frames) [
 -- whether the tick is a pixel, by its frame, row and column
 pub pixel_is : (s : Scanned) (frame row column : ℕ) → IsScan s frame row column
     → is_pixel s.mode s.frames s.tick
-    ≡ (nat_lt frame s.frames && nat_le (s.mode.htotal - s.mode.width) column && nat_le (s.mode.vtotal - s.mode.height) row)
+    ≡ (nat_lt frame s.frames && nat_le (s.mode.htotal - s.mode.width) column && nat_le
+    (s.mode.vtotal - s.mode.height) row)
 unfolding is_pixel
 pixel_is s frame row column scan =
     rw (frame_test s frame row column scan, column_is s frame row column scan, row_is s frame row column scan)
 
 -- so many ticks, and a further one
 pub pixels_more : (mode : ModeFacts) (frames first c : ℕ)
-    → pixels_among mode frames first (c + 1) ≡ pixels_among mode frames first c + (if is_pixel mode frames (first + c) then 1 else 0)
+    → pixels_among mode frames first (c + 1) ≡ pixels_among mode frames first c +
+    (if is_pixel mode frames (first + c) then 1 else 0)
 unfolding pixels_among
 pixels_more mode frames first c = rw add-one refl
 
@@ -62,7 +71,14 @@ pub pixels_join : (mode : ModeFacts) (frames first c d : ℕ)
 pixels_join mode frames first c zero = rw (pixels_none mode frames (first + c), add-zero c, add-zero) refl
 pixels_join mode frames first c (suc d) =
     let e : c + (d + 1) ≡ (c + d) + 1 = omega arith in
-    rw (← add-one, e, pixels_more mode frames first (c + d), pixels_more mode frames (first + c) d, pixels_join mode frames first c d, add_assoc first c d) (omega arith)
+    rw (
+      ← add-one,
+      e,
+      pixels_more mode frames first (c + d),
+      pixels_more mode frames (first + c) d,
+      pixels_join mode frames first c d,
+      add_assoc first c d,
+    ) (omega arith)
 
 pub at_most_one : (b : Bool) → (if b then 1 else 0) ≤ 1
 at_most_one true = omega arith

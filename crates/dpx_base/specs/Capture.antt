@@ -7,14 +7,14 @@ use Rattle.dpx_base.specs.declared.pixel.Pixel.{Pixel}
 use Rattle.dpx_base.specs.Attributes.{two_bytes}
 use Rattle.dpx_base.specs.Lanes.{lanes_count}
 use Rattle.dpx_base.specs.Plan.{PlanFacts, clocks}
-use Rattle.dpx_base.specs.Rate.{code_of}
+use Rattle.dpx_base.specs.Rate.{rate_code}
 use Rattle.dpx_base.specs.Sets.{sets}
 use Rattle.dpx_base.specs.Words.{SentWords, words_of}
 
 -- DPX1, the number of lanes, the rate, the framing, and 00
 abbrev pub header_bytes : Link → List ℕ
 header_bytes link =
-    0x44 ∷ 0x50 ∷ 0x58 ∷ 0x31 ∷ lanes_count link.lanes ∷ code_of link.rate ∷ (if link.enhanced then 1 else 0) ∷ 0 ∷ []
+    0x44 ∷ 0x50 ∷ 0x58 ∷ 0x31 ∷ lanes_count link.lanes ∷ rate_code link.rate ∷ (if link.enhanced then 1 else 0) ∷ 0 ∷ []
 
 -- Word k of a capture: clock by clock, and lane by lane within a clock
 abbrev pub word_at : (lanes : ℕ) → (words : List (List ℕ)) → (k : ℕ) → ℕ

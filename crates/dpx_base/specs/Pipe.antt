@@ -1,11 +1,12 @@
 -- What a pipe tells of itself: this project's own.
-use Rattle.std.specs.Prelude.{◌≡◌, ℕ, ◌+◌, Bool, false, nat_lt, if◌then◌else◌}
+use Rattle.std.specs.Prelude.{◌≡◌, ℕ, ◌+◌, ◌≤◌, Bool, false, nat_lt, if◌then◌else◌}
 use Rattle.std.specs.Prelude.{List, [], ◌∷◌, ◌++◌, length, take, drop, Option, Some, option_map, Result, Ok, Err}
 use Rattle.dpx_base.specs.declared.pixel.Pixel.{Pixel}
 use Rattle.dpx_base.specs.declared.pipe.PipeEnd.{PipeEnd}
 use Rattle.dpx_base.specs.declared.pipe.PipeEnd.TheVariants.{Ended}
 use Rattle.dpx_base.specs.declared.sym.Sym.{Sym}
 use Rattle.dpx_base.specs.Beam.{Shown, pixels_before, pixels_in}
+use Rattle.dpx_base.specs.Faults.{Rose}
 
 -- What it was last begun with, how many clocks were called since, and whether a call since, `begin` itself included,
 -- was refused; its count of faults; and, where it tells them, its pixels and the sets that it was handed since.
@@ -41,6 +42,12 @@ pub record IsClocked (sent : List Sym) (refused : Bool) (before now : PipeState)
   pub refusal : now.refused ≡ refused
   pub pixels : now.pixels ≡ before.pixels
   pub sets : now.sets ≡ option_map (λ sets. sets ++ sent ∷ []) before.sets
+
+-- A count of faults never falls. It rose where a call failed, and nowhere else.
+pub record CountsFaults (Failed : Type 0) (before now : ℕ) : Type 0 where
+  pub kept : before ≤ now
+  pub cause : Failed → Rose before now
+  pub calm : (Failed → ⊥) → now ≡ before
 
 -- what is given of pixels: so many, after so many were given; or that there are not so many
 abbrev pub handed_over : (pixels : List Pixel) (given due : ℕ) → Result (List Pixel) PipeEnd

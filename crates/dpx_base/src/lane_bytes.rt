@@ -5,8 +5,8 @@ use std::marker::Model;
 /// The bytes of a clock, lane 0 first: one to four.
 #[derive(Clone, Copy, Debug, PartialEq, Eq)]
 pub struct LaneBytes {
-    bytes: [u8; 4],
-    count: u8,
+    pub(crate) bytes: [u8; 4],
+    pub(crate) count: u8,
 }
 
 impl Model for LaneBytes {

@@ -1,17 +1,21 @@
 //! The values, the traits of the outside, and the forms in memory that every other crate names.
 //!
 //! * `rate`, `lanes`, `link`: the configuration of a main link
+//! * `mode`, `raw_mode`, `depth`, `pixel`, `pixel_record`: what a display shows
+//! * `sym`, `slot`, `place`, `lane_set`, `lane_bytes`, `arrivals`: what a symbol clock carries
+//! * `beam`, `scan`: when a display engine has its pixels; `pipe`, `mem_pipe`: such an engine, and one over memory
+//! * `workers`: who works on the lanes
 //! * `fault`: what an object of the outside answers where it fails, and want of memory
 //! * `source`, `sink`: bytes that are read, bytes that are written
 //! * `mem_source`, `mem_sink`: the two over memory, with faults at chosen calls
-//! * `bounded_bytes`: a list of bytes whose length is bounded
+//! * `bounded_list`: a list whose length is bounded both ways
 //! * `aux_port`: the AUX channel, as requests, answers and their history
 #![tactic(auto)]
 
 mod arrivals;
 mod aux_port;
 mod beam;
-mod bounded_bytes;
+mod bounded_list;
 mod depth;
 mod fault;
 mod lane_bytes;
@@ -24,6 +28,7 @@ mod mem_source;
 mod mode;
 mod pipe;
 mod pixel;
+mod pixel_record;
 mod place;
 mod rate;
 mod raw_mode;
@@ -37,7 +42,7 @@ mod workers;
 pub use arrivals::Arrivals;
 pub use aux_port::{Answer, AuxPort, Entry};
 pub use beam::Beam;
-pub use bounded_bytes::{BoundedBytes, Bytes20};
+pub use bounded_list::{BoundedList, Bytes20};
 pub use depth::Depth;
 pub use fault::{Failed, Memory};
 pub use lane_bytes::LaneBytes;
@@ -50,6 +55,7 @@ pub use mem_source::MemSource;
 pub use mode::Mode;
 pub use pipe::{BeginEnd, Pipe, PipeEnd};
 pub use pixel::Pixel;
+pub use pixel_record::{read_pixel, write_pixel};
 pub use place::Place;
 pub use rate::Rate;
 pub use raw_mode::{ModeField, RawMode};

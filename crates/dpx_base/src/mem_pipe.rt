@@ -1,10 +1,10 @@
-ghost use Rattle.std.specs.Prelude.{◌≡◌, ◌<◌, ◌≤◌, ◌+◌, ◌^◌, ◌⊎◌, ◌↔◌, ℕ, [], length, Contains, IsSome, IfOk, IfSome, is_err, Ok, Err, Some, None, false};
+ghost use Rattle.std.specs.Prelude.{◌≡◌, ◌<◌, ◌≤◌, ◌+◌, ◌^◌, ◌⊎◌, ◌↔◌, ℕ, [], length, Contains};
+ghost use Rattle.std.specs.Prelude.{IsSome, IfOk, IfSome, is_err, Err, Some, None, false};
 ghost use Rattle.dpx_base.specs.declared.pipe.BeginEnd.{BeginEnd};
 ghost use Rattle.dpx_base.specs.declared.pipe.PipeEnd.{PipeEnd};
 ghost use Rattle.dpx_base.specs.Beam.{IsCarried, pixels_before, pixels_in};
-ghost use Rattle.dpx_base.specs.Faults.{Rose};
-ghost use Rattle.dpx_base.specs.Pipe.{IsBegun, IsClocked, given_in, handed_over};
-ghost use Rattle.dpx_base.specs.Seen.{told_of, pipe_begun, pipe_clocked};
+ghost use Rattle.dpx_base.specs.MemPipe.{told_of, pipe_begun, pipe_clocked};
+ghost use Rattle.dpx_base.specs.Pipe.{IsBegun, IsClocked, CountsFaults, given_in, handed_over};
 
 use crate::{Arrivals, Beam, BeginEnd, LaneSet, Link, Mode, Pipe, PipeEnd, Pixel};
 use std::alloc::Global;
@@ -26,13 +26,12 @@ pub struct MemPipe {
 }
 
 impl Model for MemPipe {
-    ghost use Rattle.std.specs.Prelude.{option_map};
-    ghost use Rattle.dpx_base.specs.Seen.{PipeInMemory};
-    ghost use Rattle.dpx_base.specs.InPipe.{IsInPipe};
+    ghost use Rattle.dpx_base.specs.MemPipe.{PipeInMemory};
+    ghost use Rattle.dpx_base.specs.MemPipeFields.{IsInPipe, seen_of};
 
     ghost Value = { PipeInMemory };
 
-    ghost view = { λ p. record { pixels = p.pixels.items; fails = p.fails.items; begun = option_map (λ beam. beam.shown) p.beam; clocks = p.clocks; clock = p.clock; refused = p.refused; sets = p.sets.items; faults = p.faults } };
+    ghost view = { seen_of };
 
     ghost invariant = { IsInPipe };
 }
@@ -53,7 +52,16 @@ fn hand_over(pixels: &[Pixel], given: usize, due: usize) -> Result<Arrivals, Pip
 impl MemPipe {
     /// Holds these pixels. The clocks whose numbers, from 0, stand in `fails` fail.
     pub fn new(pixels: Vec<Pixel>, fails: Vec<u64>) -> MemPipe
-        ensures { result ≡ record { pixels = pixels.items; fails = fails.items; begun = None; clocks = 0; clock = 0; refused = false; sets = []; faults = 0 } }
+        ensures { result ≡ record {
+          pixels = pixels.items;
+          fails = fails.items;
+          begun = None;
+          clocks = 0;
+          clock = 0;
+          refused = false;
+          sets = [];
+          faults = 0;
+        } }
     {
         let alloc = *pixels.allocator();
         MemPipe {
@@ -80,8 +88,8 @@ impl MemPipe {
 impl Pipe for MemPipe {
     ghost state = { told_of };
 
-    #[tactic(auto, using(crate::proofs::Beams::pixels_first))]
     /// Takes room for the sets of all clocks.
+    #[tactic(auto, using(crate::proofs::Beams::pixels_first))]
     fn begin(
         &mut self,
         alloc: Global,
@@ -92,11 +100,12 @@ impl Pipe for MemPipe {
     ) -> Result<(), BeginEnd>
         requires carried { IsCarried mode.now link }
         requires short { clocks ≤ 2 ^ 62 }
-        ensures begun { IsBegun (record { mode = mode.now; link = link; frames = frames }) clocks (is_err result) (told_of self.old) (told_of self.new) }
-        ensures counted { self.old.faults ≤ self.new.faults }
-        ensures cause { result ≡ Err BeginEnd.Failed → Rose self.old.faults self.new.faults }
+        ensures begun { IsBegun (record { mode = mode.now; link = link; frames = frames }) clocks (is_err result)
+            (told_of self.old) (told_of self.new) }
+        ensures faults { CountsFaults (result ≡ Err BeginEnd.Failed) self.old.faults self.new.faults }
         ensures never { result ≡ Err BeginEnd.Failed → ⊥ }
-        ensures after { self.new ≡ pipe_begun (record { mode = mode.now; link = link; frames = frames }) clocks self.old result }
+        ensures after { self.new
+            ≡ pipe_begun (record { mode = mode.now; link = link; frames = frames }) clocks self.old result }
     {
         self.beam = Some(Beam::new(mode, link, frames));
         self.clocks = clocks;
@@ -117,11 +126,13 @@ impl Pipe for MemPipe {
         requires kept { self.old.refused ≡ false }
         requires left { self.old.clock < self.old.clocks }
         ensures clocked { IsClocked sent.now (is_err result) (told_of self.old) (told_of self.new) }
-        ensures count { IfSome self.old.begun (λ shown. IfOk result (λ arrivals. length arrivals ≡ pixels_in shown self.old.clock)) }
-        ensures contents { IfSome self.old.begun (λ shown. IfSome (Some self.old.pixels) (λ pixels. (result ≡ Err PipeEnd.Failed) ⊎ (result ≡ given_in shown self.old.clock pixels))) }
-        ensures ended { IfSome self.old.begun (λ shown. (n : ℕ) → result ≡ Err (PipeEnd.Ended n) → (pixels_before shown self.old.clock ≤ n) × (n < pixels_before shown (self.old.clock + 1))) }
-        ensures counted { self.old.faults ≤ self.new.faults }
-        ensures cause { result ≡ Err PipeEnd.Failed → Rose self.old.faults self.new.faults }
+        ensures count { IfSome self.old.begun (λ shown. IfOk result
+            (λ arrivals. length arrivals ≡ pixels_in shown self.old.clock)) }
+        ensures contents { IfSome self.old.begun (λ shown. IfSome (Some self.old.pixels) (λ pixels.
+            (result ≡ Err PipeEnd.Failed) ⊎ (result ≡ given_in shown self.old.clock pixels))) }
+        ensures ended { IfSome self.old.begun (λ shown. (n : ℕ) → result ≡ Err (PipeEnd.Ended n)
+            → (pixels_before shown self.old.clock ≤ n) × (n < pixels_before shown (self.old.clock + 1))) }
+        ensures faults { CountsFaults (result ≡ Err PipeEnd.Failed) self.old.faults self.new.faults }
         ensures fails { result ≡ Err PipeEnd.Failed ↔ Contains self.old.fails self.old.clock }
         ensures after { self.new ≡ pipe_clocked sent.now self.old result }
     {

@@ -1,6 +1,6 @@
 //! The ticks of a display engine, by counters.
 
-ghost use Rattle.std.specs.Prelude.{◌≡◌, ◌<◌, ◌≤◌, ◌+◌, ◌-◌, ◌^◌, ◌&&◌, nat_lt, nat_le, if◌then◌else◌};
+ghost use Rattle.std.specs.Prelude.{◌≡◌, ◌<◌, ◌≤◌, ◌+◌, ◌^◌, ◌&&◌, nat_lt, nat_le, if◌then◌else◌};
 ghost use Rattle.dpx_base.specs.Beam.{is_pixel, pixels_among};
 
 use crate::Mode;
@@ -19,12 +19,13 @@ pub(crate) struct Scan {
 
 impl Model for Scan {
     ghost use Rattle.dpx_base.specs.Scan.{Scanned, IsScan};
+    ghost use Rattle.dpx_base.specs.ScanFields.{scanned};
 
     ghost Value = { Scanned };
 
-    ghost view = { λ a. record { mode = a.mode; frames = a.frames; tick = a.tick } };
+    ghost view = { scanned };
 
-    ghost invariant = { λ a. IsScan (record { mode = a.mode; frames = a.frames; tick = a.tick }) a.frame a.row a.column };
+    ghost invariant = { λ s. IsScan (scanned s) s.frame s.row s.column };
 }
 
 /// 1 in the pixels of an active line of a frame that is shown, else 0.
@@ -36,7 +37,8 @@ fn pixel_value(
     column: u32,
     blank_ticks: u32,
 ) -> u8
-    ensures { result ≡ (if nat_lt frame frames && nat_le blank_ticks column && nat_le blank_lines row then 1 else 0) }
+    ensures { result
+        ≡ (if nat_lt frame frames && nat_le blank_ticks column && nat_le blank_lines row then 1 else 0) }
 {
     if frame < u64::from(frames) && blank_ticks <= column && blank_lines <= row {
         1

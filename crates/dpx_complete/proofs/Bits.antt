@@ -7,25 +7,25 @@ use Rattle.dpx_base.specs.declared.lanes.Lanes.TheVariants.{One, Two, Four}
 use Rattle.dpx_base.specs.declared.rate.Rate.{Rate}
 use Rattle.dpx_base.specs.declared.rate.Rate.TheVariants.{Rbr, Hbr, Hbr2, Hbr3}
 use Rattle.dpx_base.specs.declared.link.Link.{Link}
-use Rattle.dpx_base.specs.Lanes.{count_of, every_lane, lanes_from}
-use Rattle.dpx_base.specs.Rate.{code_of}
+use Rattle.dpx_base.specs.Lanes.{lanes_count, every_lane, lanes_from_count}
+use Rattle.dpx_base.specs.Rate.{rate_code}
 use Rattle.dpx_dpcd.specs.Cell.{CellFacts}
-use Rattle.dpx_dpcd.specs.RegFile.{SinkFacts, rate_with, of_link, status_at, link_status, shown, lane_pair, lane_status, lane_request, is_recovered, is_equalised}
+use Rattle.dpx_dpcd.specs.RegFile.{SinkFacts, rate_coded, of_link, status_byte, link_status, shown, lane_pair, lane_status, lane_request, is_recovered, is_equalised}
 use Rattle.dpx_dpcd.specs.Status.{cr_done, eq_done, has_bits}
 use Rattle.dpx_link.specs.Attempt.{lanes_byte}
 
 -- the link's registers hold this configuration
 pub record IsSet (link : Link) (registers : ℕ → ℕ) : Type 0 where
-  pub rate : registers 0x00100 ≡ code_of link.rate
+  pub rate : registers 0x00100 ≡ rate_code link.rate
   pub lanes : registers 0x00101 ≡ lanes_byte link
 
-rate_with-code : (rate : Rate) → rate_with (code_of rate) ≡ Some rate
-rate_with-code Rbr = refl
-rate_with-code Hbr = refl
-rate_with-code Hbr2 = refl
-rate_with-code Hbr3 = refl
+rate_coded-code : (rate : Rate) → rate_coded (rate_code rate) ≡ Some rate
+rate_coded-code Rbr = refl
+rate_coded-code Hbr = refl
+rate_coded-code Hbr2 = refl
+rate_coded-code Hbr3 = refl
 
-lanes_from-byte : (lanes : Lanes) (enhanced : Bool) → lanes_from ((count_of lanes + (if enhanced then 0x80 else 0x00)) % 0x20) ≡ Some lanes
+lanes_from-byte : (lanes : Lanes) (enhanced : Bool) → lanes_from_count ((lanes_count lanes + (if enhanced then 0x80 else 0x00)) % 0x20) ≡ Some lanes
 lanes_from-byte One true = refl
 lanes_from-byte One false = refl
 lanes_from-byte Two true = refl
@@ -42,11 +42,11 @@ abbrev pub six_of : List CellFacts → (ℕ → ℕ) → Link → List ℕ
 six_of channel registers link =
     six link.lanes (lane_status channel registers link.rate) (is_equalised channel registers link.rate) (lane_request channel link.rate)
 
-byte_of : (channel : List CellFacts) (registers : ℕ → ℕ) (link : Link) (address : ℕ) → IsSet link registers → status_at channel registers address ≡ link_status channel registers link.rate link.lanes address
-unfolding status_at
+byte_of : (channel : List CellFacts) (registers : ℕ → ℕ) (link : Link) (address : ℕ) → IsSet link registers → status_byte channel registers address ≡ link_status channel registers link.rate link.lanes address
+unfolding status_byte
 byte_of channel registers link address s =
-    ap (λ rate. of_link rate (lanes_from (registers 0x00101 % 0x20)) (λ r l. link_status channel registers r l address)) (ap rate_with s.rate ∙ rate_with-code link.rate)
-    ∙ ap (λ lanes. of_link (Some link.rate) lanes (λ r l. link_status channel registers r l address)) (ap (λ n. lanes_from (n % 0x20)) s.lanes ∙ lanes_from-byte link.lanes link.enhanced)
+    ap (λ rate. of_link rate (lanes_from_count (registers 0x00101 % 0x20)) (λ r l. link_status channel registers r l address)) (ap rate_coded s.rate ∙ rate_coded-code link.rate)
+    ∙ ap (λ lanes. of_link (Some link.rate) lanes (λ r l. link_status channel registers r l address)) (ap (λ n. lanes_from_count (n % 0x20)) s.lanes ∙ lanes_from-byte link.lanes link.enhanced)
 
 listed : (f : ℕ → ℕ) (a b c d e g : ℕ) → f 0x00202 ≡ a → f 0x00203 ≡ b → f 0x00204 ≡ c → f 0x00205 ≡ d → f 0x00206 ≡ e → f 0x00207 ≡ g → map f (range_with_len 0x00202 6) ≡ a ∷ b ∷ c ∷ d ∷ e ∷ g ∷ []
 listed f a b c d e g p q r s t u = cc

@@ -12,26 +12,26 @@ use Rattle.dpx_aux.specs.declared.transaction.AuxEnd.{AuxEnd}
 use Rattle.dpx_aux.specs.declared.transaction.AuxEnd.TheVariants.{Spent}
 use Rattle.dpx_aux.specs.declared.transaction.LastAnswer.TheVariants.{Defer}
 use Rattle.dpx_aux.specs.Conversation.{◌>>=◌}
-use Rattle.dpx_aux.specs.Request.{request_bytes, request_from, address_of}
+use Rattle.dpx_aux.specs.Request.{encode_request, read_request, address_of}
 use Rattle.dpx_aux.specs.Transaction.{Transaction, EndsAs, heard_from, asked_with}
 use Rattle.dpx_dpcd.specs.Cell.{CellFacts}
 use Rattle.dpx_dpcd.specs.RegFile.{SinkFacts}
 use Rattle.dpx_dpcd.specs.Registers.{ReadsBlock}
-use Rattle.dpx_dpcd.specs.SinkPlan.{SinkState, new_sink, sink_answer, sink_after}
+use Rattle.dpx_dpcd.specs.SinkPlan.{SinkState, new_sink, sink_answer, after_request}
 use Rattle.dpx_link.specs.declared.train_end.TrainEnd.{TrainEnd}
-use Rattle.dpx_link.specs.Training.{Capabilities, Trains, end_of}
+use Rattle.dpx_link.specs.Training.{Capabilities, TrainOutcome, end_of}
 use Rattle.dpx_complete.specs.Complete.{EndsDeferred, AnsweredTraining}
 use Rattle.dpx_complete.proofs.Meets.{Answers, answers_planned, answers-front, Stands, new_stands, deferred, request_read}
 
 -- a transaction with a sink that defers more often than it is asked
-spends : (sink : SinkFacts) (defers : ℕ) (registers : ℕ → ℕ) (request : Request) (last : Answer) (given : Result (List ℕ) AuxEnd) → 8 ≤ defers → request_from (request_bytes request) ≡ Ok request → (tried : List Answer) (place asked : ℕ) (state : SinkState) → Stands defers place registers state → place + length tried < 8 → EndsAs (address_of request) asked (heard_from request last) given → Answers sink defers state (asked_with request (tried ++ last ∷ [])) → given ≡ Err (Spent (address_of request) Defer)
+spends : (sink : SinkFacts) (defers : ℕ) (registers : ℕ → ℕ) (request : Request) (last : Answer) (given : Result (List ℕ) AuxEnd) → 8 ≤ defers → read_request (encode_request request) ≡ Ok request → (tried : List Answer) (place asked : ℕ) (state : SinkState) → Stands defers place registers state → place + length tried < 8 → EndsAs (address_of request) asked (heard_from request last) given → Answers sink defers state (asked_with request (tried ++ last ∷ [])) → given ≡ Err (Spent (address_of request) Defer)
 spends sink defers registers request last given many reads [] place asked state s few ends answers =
     let heard : last ≡ Bytes (0x20 ∷ []) = answers.0 ∙ ap (sink_answer sink defers state) reads ∙ (deferred sink defers place registers state request s (omega arith)).0 in
     let spent : (asked ≡ 8) × (given ≡ Err (Spent (address_of request) Defer)) = subst (λ (answer : Answer). EndsAs (address_of request) asked (heard_from request answer) given) heard ends in
     spent.1
 spends sink defers registers request last given many reads (x ∷ xs) place asked state s few ends answers =
-    let later : Stands defers (place + 1) registers (sink_after defers state (request_from (request_bytes request))) = subst (λ (r : Result Request AuxBad). Stands defers (place + 1) registers (sink_after defers state r)) (sym reads) (deferred sink defers place registers state request s (omega arith)).1 in
-    spends sink defers registers request last given many reads xs (place + 1) asked (sink_after defers state (request_from (request_bytes request))) later (omega arith) ends answers.1
+    let later : Stands defers (place + 1) registers (after_request defers state (read_request (encode_request request))) = subst (λ (r : Result Request AuxBad). Stands defers (place + 1) registers (after_request defers state r)) (sym reads) (deferred sink defers place registers state request s (omega arith)).1 in
+    spends sink defers registers request last given many reads xs (place + 1) asked (after_request defers state (read_request (encode_request request))) later (omega arith) ends answers.1
 
 -- whatever a sink that stands so answers to this part, it ends with this error
 abbrev FailsWith : {A E : Type 0} → SinkFacts → ℕ → SinkState → (Result A E → List Entry → Type 0) → E → Type 0
@@ -56,8 +56,8 @@ unfolding Capabilities
 capabilities_fail sink defers many =
     then_fails sink defers new_sink (ReadsBlock 0x00000) _ (Spent 0x00000 Defer) (then_fails sink defers new_sink (Transaction (Read 0x00000 16)) _ (Spent 0x00000 Defer) (first_fails sink defers many))
 
-trains_fail : (sink : SinkFacts) (defers : ℕ) (top : Link) → 8 ≤ defers → FailsWith sink defers new_sink (Trains top) (Spent 0x00000 Defer)
-unfolding Trains
+trains_fail : (sink : SinkFacts) (defers : ℕ) (top : Link) → 8 ≤ defers → FailsWith sink defers new_sink (TrainOutcome top) (Spent 0x00000 Defer)
+unfolding TrainOutcome
 trains_fail sink defers top many =
     then_fails sink defers new_sink Capabilities _ (Spent 0x00000 Defer) (capabilities_fail sink defers many)
 

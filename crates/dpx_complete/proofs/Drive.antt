@@ -6,26 +6,17 @@ use Rattle.dpx_base.specs.declared.lanes.Lanes.TheVariants.{One, Two, Four}
 use Rattle.dpx_base.specs.declared.rate.Rate.{Rate}
 use Rattle.dpx_base.specs.declared.link.Link.{Link}
 use Rattle.dpx_base.specs.Lanes.{every_lane}
-use Rattle.dpx_base.specs.Rate.{code_of}
+use Rattle.dpx_base.specs.Rate.{rate_code}
 use Rattle.dpx_dpcd.specs.Cell.{CellFacts}
-use Rattle.dpx_dpcd.specs.Channel.{cell_at}
+use Rattle.dpx_dpcd.specs.Channel.{channel_cell}
 use Rattle.dpx_dpcd.specs.RegFile.{written, lane_request, is_recovered, is_equalised}
-use Rattle.dpx_dpcd.specs.Status.{level_of, register_byte}
+use Rattle.dpx_dpcd.specs.Status.{status_level, register_byte}
 use Rattle.dpx_phase.specs.Drives.{no_drive, used}
 use Rattle.dpx_link.specs.Attempt.{lanes_byte}
 use Rattle.dpx_complete.specs.Complete.{IsCell}
+use Rattle.dpx_complete.specs.Drive.{IsRightByte, EveryLane, IsAskedFor}
 use Rattle.dpx_complete.specs.Fall.{all_recover, all_equalise}
 use Rattle.dpx_complete.proofs.Bits.{IsSet, six_of, both, four, low, high}
-
--- a register drives a lane as its cell asks for
-abbrev pub IsRightByte : CellFacts → ℕ → Type 0
-IsRightByte cell byte = (byte % 4 ≡ cell.swing) × (byte / 8 % 4 ≡ min cell.emph (3 - cell.swing))
-
--- each lane in use is such
-abbrev pub EveryLane : Lanes → (ℕ → Type 0) → Type 0
-EveryLane One Is = Is 0
-EveryLane Two Is = Is 0 × Is 1
-EveryLane Four Is = Is 0 × Is 1 × Is 2 × Is 3
 
 -- four bytes, which drive each lane in use as its cell asks for
 pub record IsRight (channel : List CellFacts) (link : Link) (drive : List ℕ) : Type 0 where
@@ -34,12 +25,16 @@ pub record IsRight (channel : List CellFacts) (link : Link) (drive : List ℕ) :
   pub c : ℕ
   pub d : ℕ
   pub is : drive ≡ a ∷ b ∷ c ∷ d ∷ []
-  pub right : EveryLane link.lanes (λ lane. IsRightByte (cell_at channel link.rate lane) (slice_index (a ∷ b ∷ c ∷ d ∷ []) lane))
+  pub right : EveryLane link.lanes (λ lane. IsRightByte (channel_cell channel link.rate lane) (slice_index (a ∷ b ∷ c ∷ d ∷ []) lane))
+
+pub right_asked_for : (channel : List CellFacts) (link : Link) (drive : List ℕ) → IsRight channel link drive
+    → IsAskedFor channel link drive
+right_asked_for channel link drive r = subst (IsAskedFor channel link) (sym r.is) r.right
 
 -- the registers drive each lane in use as its cell asks for
 abbrev pub IsDriven : List CellFacts → Link → (ℕ → ℕ) → Type 0
 IsDriven channel link registers =
-    EveryLane link.lanes (λ lane. IsRightByte (cell_at channel link.rate lane) (registers (0x00103 + lane)))
+    EveryLane link.lanes (λ lane. IsRightByte (channel_cell channel link.rate lane) (registers (0x00103 + lane)))
 
 -- a byte of a swing, an emphasis and the two bits for their maxima
 packed : (full most : Bool) (swing emph : ℕ) → swing ≤ 3 → emph ≤ 3 - swing → (full ≡ true → swing ≡ 3) → ((swing + 8 * emph + (if full then 4 else 0) + (if most then 32 else 0)) % 4 ≡ swing) × ((swing + 8 * emph + (if full then 4 else 0) + (if most then 32 else 0)) / 8 % 4 ≡ emph)
@@ -62,30 +57,30 @@ right_low cell x y few e = right_byte cell _ few (low x y (omega (arith, few.0, 
 right_high : (cell : CellFacts) (x y : ℕ) → IsCell cell → x < 16 → y ≡ cell.swing + 4 * cell.emph → IsRightByte cell (register_byte ((x + 16 * y) / 16 % 16 % 4) ((x + 16 * y) / 16 % 16 / 4))
 right_high cell x y few less e = right_byte cell _ few (high x y less (omega (arith, few.0, few.1)) ∙ e)
 
-request_few : (channel : List CellFacts) (rate : Rate) (lane : ℕ) → IsCell (cell_at channel rate lane) → lane_request channel rate lane < 16
+request_few : (channel : List CellFacts) (rate : Rate) (lane : ℕ) → IsCell (channel_cell channel rate lane) → lane_request channel rate lane < 16
 unfolding lane_request
 request_few channel rate lane few = omega (arith, few.0, few.1)
 
-right_of : (channel : List CellFacts) (link : Link) (a b c d : ℕ) → EveryLane link.lanes (λ lane. IsRightByte (cell_at channel link.rate lane) (slice_index (a ∷ b ∷ c ∷ d ∷ []) lane)) → IsRight channel link (a ∷ b ∷ c ∷ d ∷ [])
+right_of : (channel : List CellFacts) (link : Link) (a b c d : ℕ) → EveryLane link.lanes (λ lane. IsRightByte (channel_cell channel link.rate lane) (slice_index (a ∷ b ∷ c ∷ d ∷ []) lane)) → IsRight channel link (a ∷ b ∷ c ∷ d ∷ [])
 right_of channel link a b c d r = record { a = a; b = b; c = c; d = d; is = refl; right = r }
 
-levels : (channel : List CellFacts) (registers : ℕ → ℕ) (rate : Rate) (lanes : Lanes) (enhanced : Bool) → ((lane : ℕ) → IsCell (cell_at channel rate lane)) → IsRight channel (record { rate = rate; lanes = lanes; enhanced = enhanced }) (level_of lanes (six_of channel registers (record { rate = rate; lanes = lanes; enhanced = enhanced })))
-unfolding level_of lane_request
+levels : (channel : List CellFacts) (registers : ℕ → ℕ) (rate : Rate) (lanes : Lanes) (enhanced : Bool) → ((lane : ℕ) → IsCell (channel_cell channel rate lane)) → IsRight channel (record { rate = rate; lanes = lanes; enhanced = enhanced }) (status_level lanes (six_of channel registers (record { rate = rate; lanes = lanes; enhanced = enhanced })))
+unfolding status_level lane_request
 levels channel registers rate One enhanced cells =
     right_of channel _ _ _ _ _
-    (right_low (cell_at channel rate 0) _ 0 (cells 0) refl)
+    (right_low (channel_cell channel rate 0) _ 0 (cells 0) refl)
 levels channel registers rate Two enhanced cells =
     right_of channel _ _ _ _ _
-    (right_low (cell_at channel rate 0) _ _ (cells 0) refl, right_high (cell_at channel rate 1) _ _ (cells 1) (request_few channel rate 0 (cells 0)) refl)
+    (right_low (channel_cell channel rate 0) _ _ (cells 0) refl, right_high (channel_cell channel rate 1) _ _ (cells 1) (request_few channel rate 0 (cells 0)) refl)
 levels channel registers rate Four enhanced cells =
     right_of channel _ _ _ _ _
-    (right_low (cell_at channel rate 0) _ _ (cells 0) refl, right_high (cell_at channel rate 1) _ _ (cells 1) (request_few channel rate 0 (cells 0)) refl, right_low (cell_at channel rate 2) _ _ (cells 2) refl, right_high (cell_at channel rate 3) _ _ (cells 3) (request_few channel rate 2 (cells 2)) refl)
+    (right_low (channel_cell channel rate 0) _ _ (cells 0) refl, right_high (channel_cell channel rate 1) _ _ (cells 1) (request_few channel rate 0 (cells 0)) refl, right_low (channel_cell channel rate 2) _ _ (cells 2) refl, right_high (channel_cell channel rate 3) _ _ (cells 3) (request_few channel rate 2 (cells 2)) refl)
 
 -- the level of a status that the sink shows is right
-pub level_right : (channel : List CellFacts) (registers : ℕ → ℕ) (link : Link) → ((lane : ℕ) → IsCell (cell_at channel link.rate lane)) → IsRight channel link (level_of link.lanes (six_of channel registers link))
+pub level_right : (channel : List CellFacts) (registers : ℕ → ℕ) (link : Link) → ((lane : ℕ) → IsCell (channel_cell channel link.rate lane)) → IsRight channel link (status_level link.lanes (six_of channel registers link))
 level_right channel registers link cells = levels channel registers link.rate link.lanes link.enhanced cells
 
-driven_by : (channel : List CellFacts) (rate : Rate) (lanes : Lanes) (registers : ℕ → ℕ) (a b c d : ℕ) → EveryLane lanes (λ lane. IsRightByte (cell_at channel rate lane) (slice_index (a ∷ b ∷ c ∷ d ∷ []) lane)) → EveryLane lanes (λ lane. IsRightByte (cell_at channel rate lane) (written registers 0x00103 (used lanes (a ∷ b ∷ c ∷ d ∷ [])) (0x00103 + lane)))
+driven_by : (channel : List CellFacts) (rate : Rate) (lanes : Lanes) (registers : ℕ → ℕ) (a b c d : ℕ) → EveryLane lanes (λ lane. IsRightByte (channel_cell channel rate lane) (slice_index (a ∷ b ∷ c ∷ d ∷ []) lane)) → EveryLane lanes (λ lane. IsRightByte (channel_cell channel rate lane) (written registers 0x00103 (used lanes (a ∷ b ∷ c ∷ d ∷ [])) (0x00103 + lane)))
 unfolding written
 driven_by channel rate One registers a b c d r = r
 driven_by channel rate Two registers a b c d r = r
@@ -96,7 +91,7 @@ pub driven_write : (channel : List CellFacts) (link : Link) (registers : ℕ →
 driven_write channel link registers drive r =
     subst (λ (bytes : List ℕ). IsDriven channel link (written registers 0x00103 (used link.lanes bytes))) (sym r.is) (driven_by channel link.rate link.lanes registers r.a r.b r.c r.d r.right)
 
-started_by : (channel : List CellFacts) (rate : Rate) (lanes : Lanes) (registers : ℕ → ℕ) (p a b c d : ℕ) → EveryLane lanes (λ lane. IsRightByte (cell_at channel rate lane) (slice_index (a ∷ b ∷ c ∷ d ∷ []) lane)) → EveryLane lanes (λ lane. IsRightByte (cell_at channel rate lane) (written registers 0x00102 (p ∷ used lanes (a ∷ b ∷ c ∷ d ∷ [])) (0x00103 + lane)))
+started_by : (channel : List CellFacts) (rate : Rate) (lanes : Lanes) (registers : ℕ → ℕ) (p a b c d : ℕ) → EveryLane lanes (λ lane. IsRightByte (channel_cell channel rate lane) (slice_index (a ∷ b ∷ c ∷ d ∷ []) lane)) → EveryLane lanes (λ lane. IsRightByte (channel_cell channel rate lane) (written registers 0x00102 (p ∷ used lanes (a ∷ b ∷ c ∷ d ∷ [])) (0x00103 + lane)))
 unfolding written
 started_by channel rate One registers p a b c d r = r
 started_by channel rate Two registers p a b c d r = r
@@ -124,7 +119,7 @@ undriven_start Two registers p = (refl, refl)
 undriven_start Four registers p = (refl, refl, refl, refl)
 
 -- the configuration is written, and kept by the writes of a phase
-pub set_configured : (link : Link) (registers : ℕ → ℕ) → IsSet link (written (written registers 0x00100 (code_of link.rate ∷ lanes_byte link ∷ [])) 0x00107 (0x00 ∷ 0x01 ∷ []))
+pub set_configured : (link : Link) (registers : ℕ → ℕ) → IsSet link (written (written registers 0x00100 (rate_code link.rate ∷ lanes_byte link ∷ [])) 0x00107 (0x00 ∷ 0x01 ∷ []))
 unfolding written
 set_configured link registers = record { rate = refl; lanes = refl }
 
@@ -140,11 +135,11 @@ tests_pass : (c : Bool) (a b d e : ℕ) → a ≡ b → d ≡ e → (c && (a == 
 tests_pass true a b d e p q = grind (arith, common_steps)
 tests_pass false a b d e p q = refl
 
-lane_recovers : (channel : List CellFacts) (registers : ℕ → ℕ) (rate : Rate) (lane : ℕ) → IsRightByte (cell_at channel rate lane) (registers (0x00103 + lane)) → is_recovered channel registers rate lane ≡ (cell_at channel rate lane).cr
+lane_recovers : (channel : List CellFacts) (registers : ℕ → ℕ) (rate : Rate) (lane : ℕ) → IsRightByte (channel_cell channel rate lane) (registers (0x00103 + lane)) → is_recovered channel registers rate lane ≡ (channel_cell channel rate lane).cr
 unfolding is_recovered
 lane_recovers channel registers rate lane r = tests_pass _ _ _ _ _ r.0 r.1
 
-recovers_on : (channel : List CellFacts) (registers : ℕ → ℕ) (rate : Rate) (lanes : Lanes) → EveryLane lanes (λ lane. IsRightByte (cell_at channel rate lane) (registers (0x00103 + lane))) → every_lane lanes (is_recovered channel registers rate) ≡ every_lane lanes (λ lane. (cell_at channel rate lane).cr)
+recovers_on : (channel : List CellFacts) (registers : ℕ → ℕ) (rate : Rate) (lanes : Lanes) → EveryLane lanes (λ lane. IsRightByte (channel_cell channel rate lane) (registers (0x00103 + lane))) → every_lane lanes (is_recovered channel registers rate) ≡ every_lane lanes (λ lane. (channel_cell channel rate lane).cr)
 recovers_on channel registers rate One d = lane_recovers channel registers rate 0 d
 recovers_on channel registers rate Two d = both _ _ _ _ (lane_recovers channel registers rate 0 d.0) (lane_recovers channel registers rate 1 d.1)
 recovers_on channel registers rate Four d =
@@ -164,7 +159,7 @@ both_true true false t = absurd (cc)
 both_true false b t = absurd (cc)
 
 -- a lane that recovered has a cell that can, and is driven right
-lane_recovered : (channel : List CellFacts) (registers : ℕ → ℕ) (rate : Rate) (lane : ℕ) → is_recovered channel registers rate lane ≡ true → ((cell_at channel rate lane).cr ≡ true) × IsRightByte (cell_at channel rate lane) (registers (0x00103 + lane))
+lane_recovered : (channel : List CellFacts) (registers : ℕ → ℕ) (rate : Rate) (lane : ℕ) → is_recovered channel registers rate lane ≡ true → ((channel_cell channel rate lane).cr ≡ true) × IsRightByte (channel_cell channel rate lane) (registers (0x00103 + lane))
 unfolding is_recovered
 lane_recovered channel registers rate lane r = let t = tests_passed _ _ _ _ _ r in (t.0, (t.1, t.2))
 
@@ -195,17 +190,17 @@ each_lane Four Is Now f e = (f 0 e.0, f 1 e.1, f 2 e.2, f 3 e.3)
 pub recovered_all : (channel : List CellFacts) (registers : ℕ → ℕ) (link : Link) → every_lane link.lanes (is_recovered channel registers link.rate) ≡ true → (all_recover channel link ≡ true) × IsDriven channel link registers
 recovered_all channel registers link r =
     let each = passed link.lanes _ r in
-    (passing link.lanes _ (each_lane link.lanes _ (λ lane. (cell_at channel link.rate lane).cr ≡ true) (λ lane p. (lane_recovered channel registers link.rate lane p).0) each), each_lane link.lanes _ (λ lane. IsRightByte (cell_at channel link.rate lane) (registers (0x00103 + lane))) (λ lane p. (lane_recovered channel registers link.rate lane p).1) each)
+    (passing link.lanes _ (each_lane link.lanes _ (λ lane. (channel_cell channel link.rate lane).cr ≡ true) (λ lane p. (lane_recovered channel registers link.rate lane p).0) each), each_lane link.lanes _ (λ lane. IsRightByte (channel_cell channel link.rate lane) (registers (0x00103 + lane))) (λ lane p. (lane_recovered channel registers link.rate lane p).1) each)
 
 -- where some cell cannot, the lanes never all recover
 pub unrecovered : (channel : List CellFacts) (registers : ℕ → ℕ) (link : Link) (found : Bool) → every_lane link.lanes (is_recovered channel registers link.rate) ≡ found → all_recover channel link ≡ false → found ≡ false
 unrecovered channel registers link false e f = refl
 unrecovered channel registers link true e f = let t = (recovered_all channel registers link e).0 in absurd (cc)
 
-undriven_right : (channel : List CellFacts) (rate : Rate) (lanes : Lanes) (registers : ℕ → ℕ) → EveryLane lanes (λ lane. registers (0x00103 + lane) ≡ 0) → EveryLane lanes (λ lane. IsRightByte (cell_at channel rate lane) (registers (0x00103 + lane))) → EveryLane lanes (λ lane. IsRightByte (cell_at channel rate lane) (slice_index no_drive lane))
-undriven_right channel rate One registers z r = subst (IsRightByte (cell_at channel rate 0)) z r
-undriven_right channel rate Two registers z r = (subst (IsRightByte (cell_at channel rate 0)) z.0 r.0, subst (IsRightByte (cell_at channel rate 1)) z.1 r.1)
-undriven_right channel rate Four registers z r = (subst (IsRightByte (cell_at channel rate 0)) z.0 r.0, subst (IsRightByte (cell_at channel rate 1)) z.1 r.1, subst (IsRightByte (cell_at channel rate 2)) z.2 r.2, subst (IsRightByte (cell_at channel rate 3)) z.3 r.3)
+undriven_right : (channel : List CellFacts) (rate : Rate) (lanes : Lanes) (registers : ℕ → ℕ) → EveryLane lanes (λ lane. registers (0x00103 + lane) ≡ 0) → EveryLane lanes (λ lane. IsRightByte (channel_cell channel rate lane) (registers (0x00103 + lane))) → EveryLane lanes (λ lane. IsRightByte (channel_cell channel rate lane) (slice_index no_drive lane))
+undriven_right channel rate One registers z r = subst (IsRightByte (channel_cell channel rate 0)) z r
+undriven_right channel rate Two registers z r = (subst (IsRightByte (channel_cell channel rate 0)) z.0 r.0, subst (IsRightByte (channel_cell channel rate 1)) z.1 r.1)
+undriven_right channel rate Four registers z r = (subst (IsRightByte (channel_cell channel rate 0)) z.0 r.0, subst (IsRightByte (channel_cell channel rate 1)) z.1 r.1, subst (IsRightByte (channel_cell channel rate 2)) z.2 r.2, subst (IsRightByte (channel_cell channel rate 3)) z.3 r.3)
 
 -- where no drive is right in the registers, no drive is right
 pub no_drive_right : (channel : List CellFacts) (link : Link) (registers : ℕ → ℕ) → EveryLane link.lanes (λ lane. registers (0x00103 + lane) ≡ 0) → IsDriven channel link registers → IsRight channel link no_drive
@@ -217,11 +212,11 @@ equalised_test true false p a b = refl
 equalised_test true true true a b = absurd (cc)
 equalised_test false e p a b = absurd (cc)
 
-lane_equalises : (channel : List CellFacts) (registers : ℕ → ℕ) (rate : Rate) (lane : ℕ) → (registers 0x00102 % 16 == 1) ≡ false → is_recovered channel registers rate lane ≡ true → is_equalised channel registers rate lane ≡ (cell_at channel rate lane).eq
+lane_equalises : (channel : List CellFacts) (registers : ℕ → ℕ) (rate : Rate) (lane : ℕ) → (registers 0x00102 % 16 == 1) ≡ false → is_recovered channel registers rate lane ≡ true → is_equalised channel registers rate lane ≡ (channel_cell channel rate lane).eq
 unfolding is_equalised
 lane_equalises channel registers rate lane p r = equalised_test _ _ _ r p
 
-equalises_on : (channel : List CellFacts) (registers : ℕ → ℕ) (rate : Rate) (lanes : Lanes) → (registers 0x00102 % 16 == 1) ≡ false → Passed lanes (is_recovered channel registers rate) → every_lane lanes (is_equalised channel registers rate) ≡ every_lane lanes (λ lane. (cell_at channel rate lane).eq)
+equalises_on : (channel : List CellFacts) (registers : ℕ → ℕ) (rate : Rate) (lanes : Lanes) → (registers 0x00102 % 16 == 1) ≡ false → Passed lanes (is_recovered channel registers rate) → every_lane lanes (is_equalised channel registers rate) ≡ every_lane lanes (λ lane. (channel_cell channel rate lane).eq)
 equalises_on channel registers rate One p r = lane_equalises channel registers rate 0 p r
 equalises_on channel registers rate Two p r = both _ _ _ _ (lane_equalises channel registers rate 0 p r.0) (lane_equalises channel registers rate 1 p r.1)
 equalises_on channel registers rate Four p r =

@@ -9,12 +9,12 @@ use Rattle.dpx_aux.specs.declared.transaction.AuxEnd.{AuxEnd}
 use Rattle.dpx_aux.specs.Request.{IsValid}
 use Rattle.dpx_dpcd.specs.declared.pattern.Pattern.{Pattern}
 use Rattle.dpx_dpcd.specs.declared.status.Status6.{Status6}
-use Rattle.dpx_dpcd.specs.Pattern.{register_of}
+use Rattle.dpx_dpcd.specs.Pattern.{pattern_register}
 use Rattle.dpx_dpcd.specs.RegFile.{SinkFacts, written}
-use Rattle.dpx_dpcd.specs.Status.{level_of}
+use Rattle.dpx_dpcd.specs.Status.{status_level}
 use Rattle.dpx_phase.specs.declared.phase_end.PhaseEnd.{PhaseEnd}
 use Rattle.dpx_phase.specs.Drives.{used}
-use Rattle.dpx_phase.specs.Phases.{Phase, ReadsLater, Follows, Runs, Takes, as_end}
+use Rattle.dpx_phase.specs.Phase.{Phase, ReadsLater, Follows, Runs, Takes, as_end}
 use Rattle.dpx_phase.proofs.Decided.{Turn, Turns, follows_turns}
 use Rattle.dpx_phase.proofs.Endings.{LooksBack}
 use Rattle.dpx_complete.proofs.Parts.{Meets, Gives, meets_ends, meets_waits, meets_then, meets_writes, meets_status, status_of}
@@ -30,13 +30,13 @@ valid_start One p drive e = record { some = grind (arith, common_steps); few = g
 valid_start Two p drive e = record { some = grind (arith, common_steps); few = grind (arith, common_steps); within = grind (arith, common_steps) }
 valid_start Four p drive e = record { some = grind (arith, common_steps); few = grind (arith, common_steps); within = grind (arith, common_steps) }
 
-level_length : (lanes : Lanes) (status : List ℕ) → length (level_of lanes status) ≡ 4
-unfolding level_of
+level_length : (lanes : Lanes) (status : List ℕ) → length (status_level lanes status) ≡ 4
+unfolding status_level
 level_length lanes status = refl
 
 -- where the statuses so far leave the registers such, a status is read, and where it ends nothing, its drive is written
 pub record Keeps (sink : SinkFacts) (phase : Phase) (Holds : List Status6 → (ℕ → ℕ) → Type 0) : Type 0 where
-  pub on : (before : List Status6) (registers : ℕ → ℕ) → Holds before registers → phase.ending (before ++ status_of sink registers ∷ []) (length before + 1) ≡ None → Holds (before ++ status_of sink registers ∷ []) (written registers 0x00103 (used phase.lanes (level_of phase.lanes (status_of sink registers).bytes)))
+  pub on : (before : List Status6) (registers : ℕ → ℕ) → Holds before registers → phase.ending (before ++ status_of sink registers ∷ []) (length before + 1) ≡ None → Holds (before ++ status_of sink registers ∷ []) (written registers 0x00103 (used phase.lanes (status_level phase.lanes (status_of sink registers).bytes)))
 
 -- a phase ended at the status that the registers show, behind statuses that left them such
 pub record Ended (sink : SinkFacts) (phase : Phase) (Holds : List Status6 → (ℕ → ℕ) → Type 0) (end : PhaseEnd) (registers : ℕ → ℕ) : Type 0 where
@@ -63,9 +63,9 @@ meets_turn {sink = sink} phase Holds before status (Some end) rest few keeps e m
     })
 meets_turn {sink = sink} phase Holds before status None rest few keeps e more =
     meets_then (Reads sink (Holds before) status) (λ written. Holds (before ++ status ∷ [])) (Gives (Ended sink phase Holds))
-    (meets_writes 0x00103 (used phase.lanes (level_of phase.lanes status.bytes)) (Reads sink (Holds before) status) (Holds (before ++ status ∷ [])) few (valid_drive phase.lanes _ (level_length phase.lanes status.bytes)) (λ registers r.
+    (meets_writes 0x00103 (used phase.lanes (status_level phase.lanes status.bytes)) (Reads sink (Holds before) status) (Holds (before ++ status ∷ [])) few (valid_drive phase.lanes _ (level_length phase.lanes status.bytes)) (λ registers r.
     let none = subst (λ (s : Status6). phase.ending (before ++ s ∷ []) (length before + 1) ≡ None) r.1 e in
-    subst (λ (s : Status6). Holds (before ++ s ∷ []) (written registers 0x00103 (used phase.lanes (level_of phase.lanes s.bytes)))) (sym r.1) (keeps.on before registers r.0 none)))
+    subst (λ (s : Status6). Holds (before ++ s ∷ []) (written registers 0x00103 (used phase.lanes (status_level phase.lanes s.bytes)))) (sym r.1) (keeps.on before registers r.0 none)))
     (λ nothing. more)
 
 nothing_meets : {R : Type 0} {sink : SinkFacts} {defers : ℕ} (Before : (ℕ → ℕ) → Type 0) (After : R → (ℕ → ℕ) → Type 0) → Meets sink defers (λ (given : R) (history : List Entry). ⊥) Before After
@@ -89,10 +89,10 @@ as_end_met phase Holds (Ok end) registers e = e
 as_end_met phase Holds (Err why) registers e = absurd e
 
 -- a phase from its start on
-pub meets_takes : {sink : SinkFacts} {defers : ℕ} (phase : Phase) (chosen : Pattern) (drive : List ℕ) (Before : (ℕ → ℕ) → Type 0) (Holds : List Status6 → (ℕ → ℕ) → Type 0) → defers ≤ 7 → length drive ≡ 4 → LooksBack phase.ending → Keeps sink phase Holds → ((registers : ℕ → ℕ) → Before registers → Holds [] (written registers 0x00102 (register_of chosen ∷ used phase.lanes drive))) → Meets sink defers (Takes phase chosen drive) Before (Ended sink phase Holds)
+pub meets_takes : {sink : SinkFacts} {defers : ℕ} (phase : Phase) (chosen : Pattern) (drive : List ℕ) (Before : (ℕ → ℕ) → Type 0) (Holds : List Status6 → (ℕ → ℕ) → Type 0) → defers ≤ 7 → length drive ≡ 4 → LooksBack phase.ending → Keeps sink phase Holds → ((registers : ℕ → ℕ) → Before registers → Holds [] (written registers 0x00102 (pattern_register chosen ∷ used phase.lanes drive))) → Meets sink defers (Takes phase chosen drive) Before (Ended sink phase Holds)
 meets_takes {sink = sink} {defers = defers} phase chosen drive Before Holds few size looks keeps starts = record {
   meets = λ registers state given history s b t a.
-      let runs : Meets sink defers (Runs phase chosen drive) Before (Gives (Ended sink phase Holds)) = meets_then Before (λ started. Holds []) (Gives (Ended sink phase Holds)) (meets_writes 0x00102 (register_of chosen ∷ used phase.lanes drive) Before (Holds []) few (valid_start phase.lanes _ drive size) starts) (λ started. meets_follows phase Holds few looks keeps) in
+      let runs : Meets sink defers (Runs phase chosen drive) Before (Gives (Ended sink phase Holds)) = meets_then Before (λ started. Holds []) (Gives (Ended sink phase Holds)) (meets_writes 0x00102 (pattern_register chosen ∷ used phase.lanes drive) Before (Holds []) few (valid_start phase.lanes _ drive size) starts) (λ started. meets_follows phase Holds few looks keeps) in
       let met = runs.meets registers state t.result history s b t.done a in
       record {
         registers = met.registers;

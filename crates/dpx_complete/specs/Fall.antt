@@ -4,22 +4,22 @@ use Rattle.std.specs.Prelude.{◌≡◌, ℕ, ◌+◌, zero, suc, ◌&&◌, Bool
 use Rattle.dpx_base.specs.declared.link.Link.{Link}
 use Rattle.dpx_base.specs.Lanes.{every_lane}
 use Rattle.dpx_dpcd.specs.Cell.{CellFacts}
-use Rattle.dpx_dpcd.specs.Channel.{cell_at}
-use Rattle.dpx_link.specs.Fallback.{after_recovery, after_equalisation}
+use Rattle.dpx_dpcd.specs.Channel.{channel_cell}
+use Rattle.dpx_link.specs.Fallback.{after_failed_recovery, after_failed_equalisation}
 use Rattle.dpx_link.specs.Training.{attempts_at_most}
 
 -- every lane in use recovers its clock, with the drive that it asks for
 abbrev pub all_recover : List CellFacts → Link → Bool
-all_recover channel link = every_lane link.lanes (λ lane. (cell_at channel link.rate lane).cr)
+all_recover channel link = every_lane link.lanes (λ lane. (channel_cell channel link.rate lane).cr)
 
 -- every lane in use equalises
 abbrev pub all_equalise : List CellFacts → Link → Bool
-all_equalise channel link = every_lane link.lanes (λ lane. (cell_at channel link.rate lane).eq)
+all_equalise channel link = every_lane link.lanes (λ lane. (channel_cell channel link.rate lane).eq)
 
 -- the configuration that training falls back to, in a training that began with `first`
 abbrev pub lower_than : List CellFacts → Link → Link → Option Link
 lower_than channel first link =
-    if all_recover channel link then after_equalisation link else after_recovery first link
+    if all_recover channel link then after_failed_equalisation link else after_failed_recovery first link
 
 -- along the path, where it goes on
 abbrev pub along : (Link → Option Link) → Option Link → Option Link

@@ -4,8 +4,8 @@ use Rattle.std.specs.Prelude.{None, Result, Ok, Err}
 use Rattle.dpx_base.specs.declared.rate.Rate.{Rate}
 use Rattle.dpx_base.specs.declared.lanes.Lanes.{Lanes}
 use Rattle.dpx_base.specs.declared.link.Link.{Link}
-use Rattle.dpx_base.specs.Rate.{code_of, rate_up_to}
-use Rattle.dpx_base.specs.Lanes.{count_of, lanes_from}
+use Rattle.dpx_base.specs.Rate.{rate_code, rate_from_code}
+use Rattle.dpx_base.specs.Lanes.{lanes_count, lanes_from_count}
 use Rattle.dpx_dpcd.specs.declared.caps.Caps.{Caps}
 use Rattle.dpx_dpcd.specs.declared.caps.CapsBad.{CapsBad}
 use Rattle.dpx_dpcd.specs.declared.caps.CapsBad.TheVariants.{BadLanes, NoEnhanced, BadRate}
@@ -13,13 +13,13 @@ use Rattle.dpx_dpcd.specs.declared.pattern.Pattern.{Pattern}
 use Rattle.dpx_dpcd.specs.declared.pattern.Pattern.TheVariants.{Tps2, Tps3, Tps4}
 
 -- bit 7 of byte 0E: there is an extended field
-abbrev pub says_extended : List ℕ → Bool
-says_extended block = nat_le 0x80 (slice_index block 0x0e)
+abbrev pub has_extended : List ℕ → Bool
+has_extended block = nat_le 0x80 (slice_index block 0x0e)
 
 -- the rate is the last to be looked at
-abbrev pub with_rate : List ℕ → Lanes → Option Rate → Result Caps CapsBad
-with_rate block lanes None = Err (BadRate (slice_index block 1))
-with_rate block lanes (Some rate) =
+abbrev pub caps_at_rate : List ℕ → Lanes → Option Rate → Result Caps CapsBad
+caps_at_rate block lanes None = Err (BadRate (slice_index block 1))
+caps_at_rate block lanes (Some rate) =
     Ok (record {
       rate = rate;
       lanes = lanes;
@@ -29,28 +29,28 @@ with_rate block lanes (Some rate) =
     })
 
 -- enhanced framing, bit 7 of byte 2, is looked at after the lanes
-abbrev pub with_lanes : List ℕ → Option Lanes → Result Caps CapsBad
-with_lanes block None = Err (BadLanes (slice_index block 2))
-with_lanes block (Some lanes) =
+abbrev pub caps_on_lanes : List ℕ → Option Lanes → Result Caps CapsBad
+caps_on_lanes block None = Err (BadLanes (slice_index block 2))
+caps_on_lanes block (Some lanes) =
     if nat_lt (slice_index block 2) 0x80 then Err (NoEnhanced (slice_index block 2))
-    else with_rate block lanes (rate_up_to (slice_index block 1))
+    else caps_at_rate block lanes (rate_from_code (slice_index block 1))
 
 -- what a block of sixteen bytes says, or the first refusal: the lanes, bits 4:0 of byte 2; enhanced framing; the rate
-abbrev pub caps_from : List ℕ → Result Caps CapsBad
-caps_from block = with_lanes block (lanes_from (slice_index block 2 % 0x20))
+abbrev pub caps_read : List ℕ → Result Caps CapsBad
+caps_read block = caps_on_lanes block (lanes_from_count (slice_index block 2 % 0x20))
 
 -- the lower of two rates, the fewer of two lane counts
 abbrev pub lower_rate : Rate → Rate → Rate
-lower_rate a b = if nat_lt (code_of a) (code_of b) then a else b
+lower_rate a b = if nat_lt (rate_code a) (rate_code b) then a else b
 
 abbrev pub fewer_lanes : Lanes → Lanes → Lanes
-fewer_lanes a b = if nat_lt (count_of a) (count_of b) then a else b
+fewer_lanes a b = if nat_lt (lanes_count a) (lanes_count b) then a else b
 
 -- the first configuration of a training
-abbrev pub start_of : Caps → Link → Link
-start_of caps top =
+abbrev pub caps_start : Caps → Link → Link
+caps_start caps top =
     record { rate = lower_rate caps.rate top.rate; lanes = fewer_lanes caps.lanes top.lanes; enhanced = top.enhanced }
 
 -- the highest pattern for equalisation that the sink knows: this project's own
-abbrev pub pattern_for : Caps → Pattern
-pattern_for caps = if caps.tps4 then Tps4 else if caps.tps3 then Tps3 else Tps2
+abbrev pub caps_pattern : Caps → Pattern
+caps_pattern caps = if caps.tps4 then Tps4 else if caps.tps3 then Tps3 else Tps2

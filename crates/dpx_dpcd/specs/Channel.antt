@@ -15,5 +15,5 @@ place_of Hbr lane = 4 + lane
 place_of Hbr2 lane = 8 + lane
 place_of Hbr3 lane = 12 + lane
 
-abbrev pub cell_at : List CellFacts → Rate → ℕ → CellFacts
-cell_at channel rate lane = slice_index_or channel (place_of rate lane) good_cell
+abbrev pub channel_cell : List CellFacts → Rate → ℕ → CellFacts
+channel_cell channel rate lane = slice_index_or channel (place_of rate lane) good_cell

@@ -1,10 +1,12 @@
 pub mod Caps
 pub mod Cell
 pub mod Channel
+pub mod Laws
 pub mod LoadPort
 pub mod Model
 pub mod Pattern
 pub mod RegFile
+pub mod RegisterMap
 pub mod Registers
 pub mod SinkPlan
 pub mod Status

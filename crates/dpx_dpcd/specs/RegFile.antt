@@ -4,14 +4,17 @@ use Rattle.std.specs.Prelude.{ℕ, ◌+◌, ◌-◌, ◌*◌, ◌/◌, ◌%◌, 
 use Rattle.std.specs.Prelude.{if◌then◌else◌, List, [], length, map, slice_index, Option, Some, None}
 use Rattle.std.specs.List.{range_with_len}
 use Rattle.dpx_base.specs.declared.rate.Rate.{Rate}
-use Rattle.dpx_base.specs.declared.rate.Rate.TheVariants.{Rbr, Hbr, Hbr2, Hbr3}
 use Rattle.dpx_base.specs.declared.lanes.Lanes.{Lanes}
-use Rattle.dpx_base.specs.Lanes.{count_of, every_lane, lanes_from}
+use Rattle.dpx_base.specs.Lanes.{lanes_count, every_lane, lanes_from_count}
+use Rattle.dpx_base.specs.Rate.{rate_code, rate_from_code}
 use Rattle.dpx_aux.specs.declared.request.Request.{Request}
 use Rattle.dpx_aux.specs.declared.request.Request.TheVariants.{Read, Write}
 use Rattle.dpx_dpcd.specs.declared.register_file.RegFile.{RegFile}
 use Rattle.dpx_dpcd.specs.Cell.{CellFacts}
-use Rattle.dpx_dpcd.specs.Channel.{cell_at}
+use Rattle.dpx_dpcd.specs.Channel.{channel_cell}
+use Rattle.dpx_dpcd.specs.RegisterMap.{dpcd_rev, dp13_dpcd_rev, link_bw_set, lane_count_set, training_pattern_set}
+use Rattle.dpx_dpcd.specs.RegisterMap.{training_lane0_set, lane0_1_status, lane2_3_status, lane_align_status_updated}
+use Rattle.dpx_dpcd.specs.RegisterMap.{adjust_request_lane0_1, adjust_request_lane2_3, set_power}
 
 -- what no write changes: the capabilities, their extended field, and the channel
 pub record SinkFacts : Type 0 where
@@ -25,7 +28,7 @@ is_among first count address = nat_le first address && nat_lt address (first + c
 
 -- the link's registers, 00100 to 00108, and power, 00600
 abbrev pub is_writable : ℕ → Bool
-is_writable address = is_among 0x00100 9 address || (address == 0x00600)
+is_writable address = is_among link_bw_set 9 address || (address == set_power)
 
 -- registers after these bytes were written from the first address on
 unfoldable pub written : (ℕ → ℕ) → ℕ → List ℕ → ℕ → ℕ
@@ -33,27 +36,27 @@ written registers first bytes address =
     if is_writable address && is_among first (length bytes) address then slice_index bytes (address - first)
     else registers address
 
+-- a rate with this code
+abbrev pub if_coded : ℕ → Option Rate → Option Rate
+if_coded code None = None
+if_coded code (Some rate) = if rate_code rate == code then Some rate else None
+
 -- the rate with exactly this code
-abbrev pub rate_with : ℕ → Option Rate
-rate_with code =
-    if code == 0x06 then Some Rbr
-    else if code == 0x0a then Some Hbr
-    else if code == 0x14 then Some Hbr2
-    else if code == 0x1e then Some Hbr3
-    else None
+abbrev pub rate_coded : ℕ → Option Rate
+rate_coded code = if_coded code (rate_from_code code)
 
 -- A lane recovers its clock where its cell can, driven with the cell's swing and with its emphasis, which is at most
 -- 3 less the swing.
 unfoldable pub is_recovered : List CellFacts → (ℕ → ℕ) → Rate → ℕ → Bool
 is_recovered channel registers rate lane =
-    let cell = cell_at channel rate lane in
-    let drive = registers (0x00103 + lane) in
+    let cell = channel_cell channel rate lane in
+    let drive = registers (training_lane0_set + lane) in
     cell.cr && (drive % 4 == cell.swing) && (drive / 8 % 4 == min cell.emph (3 - cell.swing))
 
 -- It equalises where it recovers, its cell can, and the pattern sent, bits 3:0 of 00102, is not TPS1.
 unfoldable pub is_equalised : List CellFacts → (ℕ → ℕ) → Rate → ℕ → Bool
 is_equalised channel registers rate lane =
-    is_recovered channel registers rate lane && (cell_at channel rate lane).eq && not (registers 0x00102 % 16 == 1)
+    is_recovered channel registers rate lane && (channel_cell channel rate lane).eq && not (registers training_pattern_set % 16 == 1)
 
 -- bit 0: recovered; bits 1 and 2: equalised and locked to the symbols
 unfoldable pub lane_status : List CellFacts → (ℕ → ℕ) → Rate → ℕ → ℕ
@@ -63,11 +66,11 @@ lane_status channel registers rate lane =
 
 -- the drive that a lane asks for: swing in bits 1:0, emphasis in bits 3:2
 unfoldable pub lane_request : List CellFacts → Rate → ℕ → ℕ
-lane_request channel rate lane = (cell_at channel rate lane).swing + 4 * (cell_at channel rate lane).emph
+lane_request channel rate lane = (channel_cell channel rate lane).swing + 4 * (channel_cell channel rate lane).emph
 
 -- a lane's four bits; 0 where the lane is not in use
 abbrev pub bits_in_use : Lanes → (ℕ → ℕ) → ℕ → ℕ
-bits_in_use lanes bits lane = if nat_lt lane (count_of lanes) then bits lane else 0
+bits_in_use lanes bits lane = if nat_lt lane (lanes_count lanes) then bits lane else 0
 
 -- two lanes share a byte, the lower lane has the low bits
 abbrev pub lane_pair : Lanes → (ℕ → ℕ) → ℕ → ℕ
@@ -76,11 +79,12 @@ lane_pair lanes bits lane = bits_in_use lanes bits lane + 16 * bits_in_use lanes
 -- a status byte for a link that is set up
 unfoldable pub link_status : List CellFacts → (ℕ → ℕ) → Rate → Lanes → ℕ → ℕ
 link_status channel registers rate lanes address =
-    if address == 0x00202 then lane_pair lanes (lane_status channel registers rate) 0
-    else if address == 0x00203 then lane_pair lanes (lane_status channel registers rate) 2
-    else if address == 0x00204 then (if every_lane lanes (is_equalised channel registers rate) then 1 else 0)
-    else if address == 0x00206 then lane_pair lanes (lane_request channel rate) 0
-    else if address == 0x00207 then lane_pair lanes (lane_request channel rate) 2
+    if address == lane0_1_status then lane_pair lanes (lane_status channel registers rate) 0
+    else if address == lane2_3_status then lane_pair lanes (lane_status channel registers rate) 2
+    else if address == lane_align_status_updated then
+    if every_lane lanes (is_equalised channel registers rate) then 1 else 0
+    else if address == adjust_request_lane0_1 then lane_pair lanes (lane_request channel rate) 0
+    else if address == adjust_request_lane2_3 then lane_pair lanes (lane_request channel rate) 2
     else 0
 
 -- 00 where there is no such link
@@ -90,18 +94,18 @@ of_link (Some rate) None byte = 0
 of_link (Some rate) (Some lanes) byte = byte rate lanes
 
 -- a status byte: the rate is that of 00100, the lanes are those of 00101, bits 4:0
-unfoldable pub status_at : List CellFacts → (ℕ → ℕ) → ℕ → ℕ
-status_at channel registers address =
-    of_link (rate_with (registers 0x00100)) (lanes_from (registers 0x00101 % 0x20)) (λ rate lanes.
+unfoldable pub status_byte : List CellFacts → (ℕ → ℕ) → ℕ → ℕ
+status_byte channel registers address =
+    of_link (rate_coded (registers link_bw_set)) (lanes_from_count (registers lane_count_set % 0x20)) (λ rate lanes.
     link_status channel registers rate lanes address)
 
 -- what a read shows at an address
 unfoldable pub shown : SinkFacts → (ℕ → ℕ) → ℕ → ℕ
 shown sink registers address =
-    if is_among 0x00000 16 address then slice_index sink.caps address
-    else if is_among 0x02200 16 address then slice_index sink.extended (address - 0x02200)
+    if is_among dpcd_rev 16 address then slice_index sink.caps address
+    else if is_among dp13_dpcd_rev 16 address then slice_index sink.extended (address - dp13_dpcd_rev)
     else if is_writable address then registers address
-    else if is_among 0x00202 6 address then status_at sink.channel registers address
+    else if is_among lane0_1_status 6 address then status_byte sink.channel registers address
     else 0
 
 -- what a request's acknowledgement brings: a read's bytes, address by address
@@ -121,6 +125,6 @@ facts_of file = record { caps = file.caps; extended = file.extended; channel = f
 -- what was written to a register file
 unfoldable pub registers_of : RegFile → ℕ → ℕ
 registers_of file address =
-    if is_among 0x00100 9 address then slice_index file.link (address - 0x00100)
-    else if address == 0x00600 then file.power
+    if is_among link_bw_set 9 address then slice_index file.link (address - link_bw_set)
+    else if address == set_power then file.power
     else 0

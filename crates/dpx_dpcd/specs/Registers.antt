@@ -6,6 +6,7 @@ use Rattle.dpx_aux.specs.declared.transaction.AuxEnd.{AuxEnd}
 use Rattle.dpx_aux.specs.Conversation.{Ends, ◌>>=◌}
 use Rattle.dpx_aux.specs.Transaction.{Transaction}
 use Rattle.dpx_dpcd.specs.declared.status.Status6.{Status6}
+use Rattle.dpx_dpcd.specs.RegisterMap.{lane0_1_status}
 
 -- registers are written from an address on
 abbrev pub Writes : ℕ → List ℕ → Result ⊤ AuxEnd → List Entry → Type 0
@@ -22,5 +23,5 @@ ReadsBlock address = do
 -- the status is read: 00202 to 00207
 abbrev pub ReadsStatus : Result Status6 AuxEnd → List Entry → Type 0
 ReadsStatus = do
-  bytes ← Transaction (Read 0x00202 6)
+  bytes ← Transaction (Read lane0_1_status 6)
   Ends (Ok (record { bytes = bytes }))

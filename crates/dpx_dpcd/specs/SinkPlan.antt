@@ -6,7 +6,7 @@ use Rattle.dpx_base.specs.declared.aux_port.Answer.{Answer}
 use Rattle.dpx_base.specs.declared.aux_port.Answer.TheVariants.{Silent, Bytes}
 use Rattle.dpx_aux.specs.declared.request.AuxBad.{AuxBad}
 use Rattle.dpx_aux.specs.declared.request.Request.{Request}
-use Rattle.dpx_aux.specs.Request.{request_from}
+use Rattle.dpx_aux.specs.Request.{read_request}
 use Rattle.dpx_dpcd.specs.declared.plan.SinkPlan.{SinkPlan}
 use Rattle.dpx_dpcd.specs.declared.plan.SinkPlan.TheVariants.{Script, Model}
 use Rattle.dpx_dpcd.specs.RegFile.{SinkFacts, brought, registers_after}
@@ -32,9 +32,9 @@ sink_answer sink defers state (Ok request) =
     else Bytes (0x00 ∷ brought sink state.registers request)
 
 -- A request that is deferred is counted and changes no register; bytes that are no request change nothing.
-unfoldable pub sink_after : ℕ → SinkState → Result Request AuxBad → SinkState
-sink_after defers state (Err bad) = state
-sink_after defers state (Ok request) = record {
+unfoldable pub after_request : ℕ → SinkState → Result Request AuxBad → SinkState
+after_request defers state (Err bad) = state
+after_request defers state (Ok request) = record {
   requests = state.requests + 1;
   registers = if is_deferred defers state.requests then state.registers else registers_after request state.registers;
 }
@@ -42,7 +42,7 @@ sink_after defers state (Ok request) = record {
 -- what a modelled sink that stands so answers to these bytes, ask by ask
 abbrev pub sink_answers : SinkFacts → ℕ → SinkState → List (List ℕ) → List Answer
 sink_answers sink defers state requests =
-    scan (sink_after defers) (sink_answer sink defers) state (map request_from requests)
+    scan (after_request defers) (sink_answer sink defers) state (map read_request requests)
 
 -- a script's answers, and silence behind them
 abbrev pub script_answers : List Answer → List (List ℕ) → List Answer

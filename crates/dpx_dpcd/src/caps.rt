@@ -1,5 +1,5 @@
 ghost use Rattle.std.specs.Prelude.{◌≡◌, ◌≤◌, IfOk};
-ghost use Rattle.dpx_dpcd.specs.Caps.{caps_from, start_of, pattern_for, says_extended};
+ghost use Rattle.dpx_dpcd.specs.Caps.{caps_read, caps_start, caps_pattern, has_extended};
 
 use crate::Pattern;
 use dpx_base::{Lanes, Link, Rate};
@@ -34,7 +34,7 @@ pub enum CapsBad {
 
 /// Whether the block says that the extended field at 02200 is there: bit 7 of byte 0E.
 pub fn has_extended(bytes: &[u8; 16]) -> bool
-    ensures { result ≡ says_extended bytes.now }
+    ensures { result ≡ has_extended bytes.now }
 {
     bytes[0x0e] >= 0x80
 }
@@ -43,7 +43,7 @@ impl Caps {
     /// Reads a block. The first refusal in the order of `CapsBad` is given, which is this project's own
     /// order.
     pub fn read(bytes: &[u8; 16]) -> Result<Caps, CapsBad>
-        ensures value { result ≡ caps_from bytes.now }
+        ensures value { result ≡ caps_read bytes.now }
         ensures interval { IfOk result (λ caps. caps.interval ≤ 127) }
     {
         let Some(lanes) = Lanes::from_count(bytes[2] % 0x20) else {
@@ -66,7 +66,7 @@ impl Caps {
 
     /// The first configuration of a training: the lower rate and the fewer lanes of this sink and of `top`.
     pub fn start(&self, top: Link) -> Link
-        ensures { result ≡ start_of self.now top }
+        ensures { result ≡ caps_start self.now top }
     {
         Link {
             rate: if self.rate.code() < top.rate.code() {
@@ -86,7 +86,7 @@ impl Caps {
     /// The pattern for equalisation: the highest one that the sink knows, which is this project's own
     /// choice.
     pub fn pattern(&self) -> Pattern
-        ensures { result ≡ pattern_for self.now }
+        ensures { result ≡ caps_pattern self.now }
     {
         if self.tps4 {
             Pattern::Tps4

@@ -1,5 +1,5 @@
 ghost use Rattle.std.specs.Prelude.{◌≡◌, ◌<◌, ◌≤◌, replicate, slice_set};
-ghost use Rattle.dpx_dpcd.specs.Channel.{good_cell, cell_at, place_of};
+ghost use Rattle.dpx_dpcd.specs.Channel.{good_cell, channel_cell, place_of};
 
 use dpx_base::Rate;
 use std::marker::Model;
@@ -101,9 +101,9 @@ impl Channel {
     /// How a lane, 0 to 3, behaves at the rate.
     pub fn cell(&self, rate: Rate, lane: u8) -> Cell
         requires { lane < 4 }
-        ensures { result ≡ cell_at self.now rate lane }
+        ensures { result ≡ channel_cell self.now rate lane }
     {
-        self.cells[place(rate, lane)]
+        self.cells[place_of(rate, lane)]
     }
 
     /// Lets a lane, 0 to 3, behave so at the rate.
@@ -111,11 +111,11 @@ impl Channel {
         requires { lane < 4 }
         ensures { self.new ≡ slice_set self.old (place_of rate lane) cell }
     {
-        self.cells[place(rate, lane)] = cell;
+        self.cells[place_of(rate, lane)] = cell;
     }
 }
 
-fn place(rate: Rate, lane: u8) -> usize
+fn place_of(rate: Rate, lane: u8) -> usize
     requires { lane < 4 }
     ensures value { result ≡ place_of rate lane }
     ensures bound { result < 16 }

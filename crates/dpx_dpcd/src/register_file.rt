@@ -4,10 +4,16 @@ ghost use Rattle.std.specs.List.{range_with_len};
 ghost use Rattle.dpx_base.specs.Lanes.{every_lane};
 ghost use Rattle.dpx_aux.specs.Request.{IsValid};
 ghost use Rattle.dpx_dpcd.specs.RegFile.{facts_of, registers_of, brought, registers_after, written, is_writable};
-ghost use Rattle.dpx_dpcd.specs.RegFile.{shown, status_at, link_status, bits_in_use, lane_pair, lane_status};
-ghost use Rattle.dpx_dpcd.specs.RegFile.{lane_request, is_recovered, is_equalised, rate_with};
+ghost use Rattle.dpx_dpcd.specs.RegFile.{shown, status_byte, link_status, bits_in_use, lane_pair, lane_status};
+ghost use Rattle.dpx_dpcd.specs.RegFile.{lane_request, is_recovered, is_equalised, rate_coded};
+ghost use Rattle.dpx_dpcd.specs.RegisterMap.{link_bw_set};
 
 use crate::Channel;
+use crate::register_map::{
+    ADJUST_REQUEST_LANE0_1, ADJUST_REQUEST_LANE2_3, CAPS_END, DP13_DPCD_REV, DPCD_REV,
+    EXTENDED_CAPS_END, LANE_ALIGN_STATUS_UPDATED, LANE0_1_STATUS, LANE2_3_STATUS, LINK_BW_SET,
+    MAIN_LINK_CHANNEL_CODING_SET, SET_POWER,
+};
 use dpx_aux::{Data16, Reply, Request};
 use dpx_base::{Lanes, Rate};
 
@@ -89,8 +95,10 @@ impl RegFile {
         ensures facts { facts_of self.new ≡ facts_of self.old }
     {
         match address {
-            0x0_0100..=0x0_0108 => self.link[(address - 0x0_0100) as usize] = byte,
-            0x0_0600 => self.power = byte,
+            LINK_BW_SET..=MAIN_LINK_CHANNEL_CODING_SET => {
+                self.link[(address - LINK_BW_SET) as usize] = byte;
+            }
+            SET_POWER => self.power = byte,
             _ => {}
         }
     }
@@ -101,36 +109,37 @@ impl RegFile {
         ensures { result ≡ shown (facts_of self.now) (registers_of self.now) address }
     {
         match address {
-            0x0_0000..=0x0_000f => self.caps[address as usize],
-            0x0_2200..=0x0_220f => self.extended[(address - 0x0_2200) as usize],
-            0x0_0100..=0x0_0108 => self.link[(address - 0x0_0100) as usize],
-            0x0_0600 => self.power,
-            0x0_0202..=0x0_0207 => self.status(address),
+            DPCD_REV..=CAPS_END => self.caps[address as usize],
+            DP13_DPCD_REV..=EXTENDED_CAPS_END => self.extended[(address - DP13_DPCD_REV) as usize],
+            LINK_BW_SET..=MAIN_LINK_CHANNEL_CODING_SET => {
+                self.link[(address - LINK_BW_SET) as usize]
+            }
+            SET_POWER => self.power,
+            LANE0_1_STATUS..=ADJUST_REQUEST_LANE2_3 => self.status_byte(address),
             _ => 0,
         }
     }
 
-    #[tactic(auto, unfolding(crate::specs::RegFile::status_at, crate::specs::RegFile::registers_of))]
-    fn status(&self, address: u32) -> u8
-        ensures { result ≡ status_at self.now.channel (registers_of self.now) address }
+    #[tactic(auto, unfolding(crate::specs::RegFile::status_byte, crate::specs::RegFile::registers_of))]
+    fn status_byte(&self, address: u32) -> u8
+        ensures { result ≡ status_byte self.now.channel (registers_of self.now) address }
     {
         let lanes = Lanes::from_count(self.link[1] % 0x20);
-        match (self.rate(), lanes) {
+        match (self.rate_coded(), lanes) {
             (Some(rate), Some(lanes)) => self.link_status(rate, lanes, address),
             _ => 0,
         }
     }
 
     #[tactic(auto, unfolding(crate::specs::RegFile::registers_of))]
-    fn rate(&self) -> Option<Rate>
-        ensures { result ≡ rate_with (registers_of self.now 0x100) }
+    fn rate_coded(&self) -> Option<Rate>
+        ensures { result ≡ rate_coded (registers_of self.now link_bw_set) }
     {
-        match self.link[0] {
-            0x06 => Some(Rate::Rbr),
-            0x0a => Some(Rate::Hbr),
-            0x14 => Some(Rate::Hbr2),
-            0x1e => Some(Rate::Hbr3),
-            _ => None,
+        let rate = Rate::from_code(self.link[0])?;
+        if rate.code() == self.link[0] {
+            Some(rate)
+        } else {
+            None
         }
     }
 
@@ -139,11 +148,11 @@ impl RegFile {
         ensures { result ≡ link_status self.now.channel (registers_of self.now) rate lanes address }
     {
         match address {
-            0x0_0202 => self.status_pair(rate, lanes, 0),
-            0x0_0203 => self.status_pair(rate, lanes, 2),
-            0x0_0204 => u8::from(self.is_aligned(rate, lanes)),
-            0x0_0206 => self.request_pair(rate, lanes, 0),
-            0x0_0207 => self.request_pair(rate, lanes, 2),
+            LANE0_1_STATUS => self.status_pair(rate, lanes, 0),
+            LANE2_3_STATUS => self.status_pair(rate, lanes, 2),
+            LANE_ALIGN_STATUS_UPDATED => u8::from(self.is_aligned(rate, lanes)),
+            ADJUST_REQUEST_LANE0_1 => self.request_pair(rate, lanes, 0),
+            ADJUST_REQUEST_LANE2_3 => self.request_pair(rate, lanes, 2),
             _ => 0,
         }
     }
@@ -195,14 +204,7 @@ impl RegFile {
     fn is_aligned(&self, rate: Rate, lanes: Lanes) -> bool
         ensures { result ≡ every_lane lanes (is_equalised self.now.channel (registers_of self.now) rate) }
     {
-        match lanes {
-            Lanes::One => self.is_equalised(rate, 0),
-            Lanes::Two => self.is_equalised(rate, 0) && self.is_equalised(rate, 1),
-            Lanes::Four => self.is_equalised(rate, 0)
-                && self.is_equalised(rate, 1)
-                && self.is_equalised(rate, 2)
-                && self.is_equalised(rate, 3),
-        }
+        lanes.every_lane(|lane| self.is_equalised(rate, lane))
     }
 
     #[tactic(auto, unfolding(crate::specs::RegFile::is_recovered, crate::specs::RegFile::registers_of))]

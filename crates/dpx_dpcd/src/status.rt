@@ -1,6 +1,6 @@
 ghost use Rattle.std.specs.Prelude.{◌≡◌, ◌+◌, ◌<◌, ◌≤◌};
-ghost use Rattle.dpx_base.specs.Lanes.{count_of, every_lane};
-ghost use Rattle.dpx_dpcd.specs.Status.{nibble, cr_done, eq_done, level_of, lane_level, register_byte, has_bits};
+ghost use Rattle.dpx_base.specs.Lanes.{lanes_count, every_lane};
+ghost use Rattle.dpx_dpcd.specs.Status.{nibble, cr_done, eq_done, status_level, lane_level, register_byte, has_bits};
 
 use dpx_base::Lanes;
 
@@ -45,9 +45,9 @@ impl Status6 {
 
     /// The drive that the lanes in use ask for in registers 00206 and 00207. That swing goes before
     /// pre-emphasis, where they exceed 3 in sum, is this project's own choice.
-    #[tactic(auto, unfolding(crate::specs::Status::level_of))]
+    #[tactic(auto, unfolding(crate::specs::Status::status_level))]
     pub fn level(&self, lanes: Lanes) -> Drive
-        ensures { result.registers ≡ level_of lanes self.now.bytes }
+        ensures { result.registers ≡ status_level lanes self.now.bytes }
     {
         Drive {
             registers: [
@@ -63,17 +63,10 @@ impl Status6 {
         requires { bits < 16 }
         ensures { result ≡ every_lane lanes (has_bits bits self.now.bytes) }
     {
-        match lanes {
-            Lanes::One => self.has(0, bits),
-            Lanes::Two => self.has(0, bits) && self.has(1, bits),
-            Lanes::Four => self.has(0, bits)
-                && self.has(1, bits)
-                && self.has(2, bits)
-                && self.has(3, bits),
-        }
+        lanes.every_lane(|lane| self.has(lane, bits))
     }
 
-    fn has(&self, lane: usize, bits: u8) -> bool
+    fn has(&self, lane: u8, bits: u8) -> bool
         requires lane { lane < 4 }
         requires bits { bits < 16 }
         ensures { result ≡ has_bits bits self.now.bytes lane }
@@ -86,7 +79,7 @@ impl Status6 {
         ensures { result ≡ lane_level lanes self.now.bytes lane }
     {
         if lane < lanes.count() {
-            let asked = self.nibble(4, usize::from(lane));
+            let asked = self.nibble(4, lane);
             register_byte(asked % 4, asked / 4)
         } else {
             0
@@ -94,13 +87,13 @@ impl Status6 {
     }
 
     /// The four bits of a lane in a pair of bytes: the lower lane has the low nibble.
-    fn nibble(&self, pair: usize, lane: usize) -> u8
+    fn nibble(&self, pair: usize, lane: u8) -> u8
         requires pair { pair ≤ 4 }
         requires lane { lane < 4 }
         ensures value { result ≡ nibble self.now.bytes pair lane }
         ensures bound { result < 16 }
     {
-        let byte = self.bytes[pair + lane / 2];
+        let byte = self.bytes[pair + usize::from(lane / 2)];
         if lane % 2 == 0 { byte % 16 } else { byte / 16 }
     }
 }

@@ -8,7 +8,7 @@ use Rattle.dpx_base.specs.declared.rate.Rate.TheVariants.{Rbr, Hbr, Hbr2, Hbr3}
 use Rattle.dpx_dpcd.specs.Cell.{CellFacts}
 use Rattle.dpx_dpcd.specs.Channel.{good_cell, place_of}
 use Rattle.dpx_files.specs.Members.{whole_number, elements, if_object}
-use Rattle.dpx_base.specs.Rate.{name_of}
+use Rattle.dpx_base.specs.Rate.{rate_name}
 
 -- one step, and behind it the next, where each has a value
 infixl 10 ◌>>=◌
@@ -61,7 +61,7 @@ lanes_in None = Some (replicate 4 good_cell)
 lanes_in (Some value) = option_and_then lanes_from (elements value)
 
 unfoldable pub lanes_at : Data → Rate → Option (List CellFacts)
-lanes_at channel rate = lanes_in (get (name_of rate) channel)
+lanes_at channel rate = lanes_in (get (rate_name rate) channel)
 
 -- the lanes at each rate, RBR first
 unfoldable pub channel_of : Data → Option (List CellFacts)

@@ -7,8 +7,8 @@ use Rattle.dpx_base.specs.declared.rate.Rate.{Rate}
 use Rattle.dpx_base.specs.declared.rate.Rate.TheVariants.{Rbr, Hbr, Hbr2, Hbr3}
 use Rattle.dpx_base.specs.declared.lanes.Lanes.{Lanes}
 use Rattle.dpx_base.specs.declared.link.Link.{Link}
-use Rattle.dpx_base.specs.Lanes.{lanes_from}
-use Rattle.dpx_base.specs.Rate.{name_of}
+use Rattle.dpx_base.specs.Lanes.{lanes_from_count}
+use Rattle.dpx_base.specs.Rate.{rate_name}
 use Rattle.dpx_files.specs.declared.refusal.Field.{Field}
 use Rattle.dpx_files.specs.declared.refusal.Field.TheVariants as field
 use Rattle.dpx_files.specs.Refusal.{wanted, ◌>>=◌}
@@ -17,10 +17,10 @@ use Rattle.dpx_files.specs.Members.{whole_number, object_in}
 -- the rate of a name
 abbrev pub rate_named : List ℕ → Option Rate
 rate_named name =
-    if bytes_eq name (name_of Rbr) then Some Rbr
-    else if bytes_eq name (name_of Hbr) then Some Hbr
-    else if bytes_eq name (name_of Hbr2) then Some Hbr2
-    else if bytes_eq name (name_of Hbr3) then Some Hbr3
+    if bytes_eq name (rate_name Rbr) then Some Rbr
+    else if bytes_eq name (rate_name Hbr) then Some Hbr
+    else if bytes_eq name (rate_name Hbr2) then Some Hbr2
+    else if bytes_eq name (rate_name Hbr3) then Some Hbr3
     else None
 
 -- `rate`: the name of a rate
@@ -30,7 +30,7 @@ rate_of link = wanted field.Rate (option_and_then rate_named (option_and_then as
 -- `lanes`: 1, 2 or 4
 abbrev pub lanes_of : Data → Result Lanes Field
 lanes_of link =
-    wanted field.Lanes (option_and_then lanes_from (option_and_then whole_number (get (codes "lanes") link)))
+    wanted field.Lanes (option_and_then lanes_from_count (option_and_then whole_number (get (codes "lanes") link)))
 
 -- `link`: an object with both; the framing is enhanced
 unfoldable pub link_of : Data → Result Link Field

@@ -1,6 +1,6 @@
 ghost use Rattle.std.specs.Prelude.{◌≡◌, true, IfOk};
 ghost use Rattle.serde_json.specs.View.{view};
-ghost use Rattle.dpx_base.specs.Lanes.{lanes_from};
+ghost use Rattle.dpx_base.specs.Lanes.{lanes_from_count};
 ghost use Rattle.dpx_files.specs.LinkFields.{link_of, rate_of, lanes_of, rate_named};
 
 use crate::Field;
@@ -36,7 +36,7 @@ fn read_lanes(link: &Value) -> Result<Lanes, Field>
 {
     link.get("lanes")
         .and_then(Value::as_u64)
-        .and_then(lanes_from)
+        .and_then(lanes_from_count)
         .ok_or(Field::Lanes)
 }
 
@@ -52,8 +52,8 @@ fn rate_named(name: &str) -> Option<Rate>
     }
 }
 
-fn lanes_from(number: u64) -> Option<Lanes>
-    ensures { result ≡ lanes_from number }
+fn lanes_from_count(number: u64) -> Option<Lanes>
+    ensures { result ≡ lanes_from_count number }
 {
     let Ok(count) = u8::try_from(number) else {
         return None;

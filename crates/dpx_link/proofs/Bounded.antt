@@ -9,26 +9,28 @@ use Rattle.dpx_base.specs.Port.{asks}
 use Rattle.dpx_base.proofs.Port.{asks-append}
 use Rattle.dpx_aux.specs.declared.request.Request.{Request}
 use Rattle.dpx_aux.specs.declared.transaction.AuxEnd.{AuxEnd}
-use Rattle.dpx_aux.specs.Conversation.{Ends, Waits, ◌>>=◌, Choice}
+use Rattle.dpx_aux.specs.Conversation.{Ends, Waits, ◌>>=◌, Choice, HistoriesAre}
 use Rattle.dpx_aux.specs.Transaction.{Transaction, asked_with}
 use Rattle.dpx_dpcd.specs.declared.caps.Caps.{Caps}
 use Rattle.dpx_dpcd.specs.declared.caps.CapsBad.{CapsBad}
 use Rattle.dpx_dpcd.specs.declared.pattern.Pattern.{Pattern}
 use Rattle.dpx_dpcd.specs.declared.status.Drive.{Drive}
 use Rattle.dpx_dpcd.specs.declared.status.Status6.{Status6}
-use Rattle.dpx_dpcd.specs.Caps.{says_extended, caps_from, start_of}
+use Rattle.dpx_dpcd.specs.Caps.{has_extended, caps_read, caps_start}
 use Rattle.dpx_dpcd.specs.Registers.{ReadsBlock, Writes}
 use Rattle.dpx_phase.specs.declared.phase_end.PhaseEnd.{PhaseEnd}
 use Rattle.dpx_phase.specs.declared.phase_end.PhaseEnd.TheVariants.{Done, Failed, Lost, Aux}
-use Rattle.dpx_phase.specs.Phases.{Phase, ReadsLater, Round, Rounds, Concludes, Follows, Takes, Recovery, Equalisation}
+use Rattle.dpx_phase.specs.Equalisation.{Equalisation}
+use Rattle.dpx_phase.specs.Phase.{Phase, ReadsLater, Round, Rounds, Concludes, Follows, Takes}
+use Rattle.dpx_phase.specs.Recovery.{Recovery}
 use Rattle.dpx_phase.proofs.Least.{tenth_ends, fifth_ends}
 use Rattle.dpx_link.specs.declared.fallback.Next.{Next}
 use Rattle.dpx_link.specs.declared.fallback.Next.TheVariants.{Try, Stop}
 use Rattle.dpx_link.specs.declared.train_end.Verdict.{Verdict}
-use Rattle.dpx_link.specs.Attempt.{Attempt, Configures, Phases, AfterRecovery, Equalises}
+use Rattle.dpx_link.specs.Attempt.{Attempt, Configures, PhasesInTurn, AfterRecovery, Equalises}
 use Rattle.dpx_link.specs.Fallback.{next_of}
-use Rattle.dpx_link.specs.Laws.{OnlyWaits, MadeOf, MadeOfAtMost, HistoriesAre}
-use Rattle.dpx_link.specs.Training.{Capabilities, Capable, Never, Attempts, AfterAttempt, TrainsWith, Trains, Training, attempts_at_most}
+use Rattle.dpx_link.specs.Laws.{OnlyWaits, MadeOf, MadeOfAtMost}
+use Rattle.dpx_link.specs.Training.{Capabilities, Capable, Never, Attempts, AfterAttempt, TrainsWith, TrainOutcome, Training, attempts_at_most}
 
 waits-append : (xs ys : List Entry) → OnlyWaits xs → OnlyWaits ys → OnlyWaits (xs ++ ys)
 waits-append [] ys v w = w
@@ -189,7 +191,7 @@ after_most caps link (Failed last cause) = more_most 0 10 _ (omega arith) (ends_
 after_most caps link (Lost last) = more_most 0 10 _ (omega arith) (ends_most _)
 after_most caps link (Aux why) = more_most 0 10 _ (omega arith) (ends_most _)
 
-phases_most : (caps : Caps) (link : Link) → HistoriesAre (Phases caps link) (MadeOfAtMost 30)
+phases_most : (caps : Caps) (link : Link) → HistoriesAre (PhasesInTurn caps link) (MadeOfAtMost 30)
 phases_most caps link given history p =
     most-append 20 10 history p.front p.back p.joined (recovery_most link p.end p.front p.recovery) (after_most caps link p.end given p.back p.goes_on)
 
@@ -221,16 +223,16 @@ trains_with_most caps first =
 
 capable_most : (top : Link) (caps : Result Caps CapsBad) → HistoriesAre (Capable top caps) (MadeOfAtMost 386)
 capable_most top (Err why) = more_most 0 386 _ (omega arith) (ends_most _)
-capable_most top (Ok caps) = trains_with_most caps (start_of caps top)
+capable_most top (Ok caps) = trains_with_most caps (caps_start caps top)
 
 capabilities_most : HistoriesAre Capabilities (MadeOfAtMost 2)
 unfolding Capabilities
 capabilities_most =
-    then_most 1 1 _ _ (block_most _) (λ block. choice_most 1 (says_extended block) _ _ (block_most _) (more_most 0 1 _ (omega arith) (ends_most _)))
+    then_most 1 1 _ _ (block_most _) (λ block. choice_most 1 (has_extended block) _ _ (block_most _) (more_most 0 1 _ (omega arith) (ends_most _)))
 
-trains_most : (top : Link) → HistoriesAre (Trains top) (MadeOfAtMost 388)
-unfolding Trains
-trains_most top = then_most 2 386 _ _ capabilities_most (λ block. capable_most top (caps_from block))
+trains_most : (top : Link) → HistoriesAre (TrainOutcome top) (MadeOfAtMost 388)
+unfolding TrainOutcome
+trains_most top = then_most 2 386 _ _ capabilities_most (λ block. capable_most top (caps_read block))
 
 pub training_most : (top : Link) → HistoriesAre (Training top) (MadeOfAtMost 388)
 training_most top end history t = trains_most top t.outcome history t.trains
@@ -254,7 +256,7 @@ made_asks zero history m = omega (arith, asks-waits history m)
 made_asks (suc n) history m =
     omega (arith, ap asks m.joined, asks-append m.waits (m.front ++ m.back), asks-append m.front m.back, asks-waits m.waits m.waited, transaction_asks m.request m.given m.front m.transacts, made_asks n m.back m.goes_on)
 
-pub training_asks : (top : Link) → HistoriesAre (Training top) (λ history. asks history ≤ 3104)
-training_asks top end history t =
+pub training_asked : (top : Link) → HistoriesAre (Training top) (λ history. asks history ≤ 3104)
+training_asked top end history t =
     let m = training_most top end history t in
     omega (arith, m.few, made_asks m.count history m.made)

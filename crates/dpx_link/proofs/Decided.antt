@@ -1,41 +1,31 @@
 -- For given answers a training has one history, and one end.
 use Rattle.std.proofs.lemmas.List.{append_cancel_left}
-use Rattle.std.proofs.Common.{◌≡◌, ℕ, suc, zero, List, ◌++◌, sym, ap, ◌∙◌, subst, append_assoc, Result, Ok, Err}
-use Rattle.dpx_base.specs.declared.aux_port.Answer.{Answer}
+use Rattle.std.proofs.Common.{◌≡◌, ℕ, suc, zero, List, ◌++◌, sym, ap, ◌∙◌, subst, Result, Ok, Err}
 use Rattle.dpx_base.specs.declared.aux_port.Entry.{Entry}
 use Rattle.dpx_base.specs.declared.link.Link.{Link}
-use Rattle.dpx_base.specs.Port.{asks, answers_of}
-use Rattle.dpx_base.proofs.Port.{answers_of-append}
+use Rattle.dpx_base.specs.Port.{asks, answers_in}
 use Rattle.dpx_aux.specs.declared.transaction.AuxEnd.{AuxEnd}
 use Rattle.dpx_aux.specs.Conversation.{IsDecided}
-use Rattle.dpx_aux.proofs.Decided.{ends_decided, choice_decided, then_decided, transaction_decided}
+use Rattle.dpx_aux.proofs.Decided.{ends_decided, choice_decided, then_decided, answers_regrouped}
 use Rattle.dpx_dpcd.specs.declared.caps.Caps.{Caps}
 use Rattle.dpx_dpcd.specs.declared.caps.CapsBad.{CapsBad}
 use Rattle.dpx_dpcd.specs.declared.pattern.Pattern.{Pattern}
 use Rattle.dpx_dpcd.specs.declared.status.Drive.{Drive}
-use Rattle.dpx_dpcd.specs.Caps.{says_extended, caps_from, start_of}
+use Rattle.dpx_dpcd.specs.Caps.{has_extended, caps_read, caps_start}
 use Rattle.dpx_dpcd.specs.Registers.{ReadsBlock, Writes}
 use Rattle.dpx_phase.specs.declared.phase_end.PhaseEnd.{PhaseEnd}
 use Rattle.dpx_phase.specs.declared.phase_end.PhaseEnd.TheVariants.{Done, Failed, Lost, Aux}
-use Rattle.dpx_phase.specs.Phases.{Recovery, Equalisation}
+use Rattle.dpx_phase.specs.Equalisation.{Equalisation}
+use Rattle.dpx_phase.specs.Recovery.{Recovery}
+use Rattle.dpx_dpcd.proofs.Decided.{writes_decided, block_decided}
 use Rattle.dpx_phase.proofs.Endings.{recovery_looks_back, equalisation_looks_back}
 use Rattle.dpx_phase.proofs.Decided.{takes_decided}
 use Rattle.dpx_link.specs.declared.fallback.Next.{Next}
 use Rattle.dpx_link.specs.declared.fallback.Next.TheVariants.{Try, Stop}
 use Rattle.dpx_link.specs.declared.train_end.Verdict.{Verdict}
-use Rattle.dpx_link.specs.Attempt.{Attempt, Configures, Phases, AfterRecovery, Equalises, equalised}
+use Rattle.dpx_link.specs.Attempt.{Attempt, Configures, PhasesInTurn, AfterRecovery, Equalises, equalised}
 use Rattle.dpx_link.specs.Fallback.{next_of}
-use Rattle.dpx_link.specs.Training.{Capabilities, Capable, Never, Attempts, AfterAttempt, TrainsWith, Trains, Training, attempts_at_most, end_of}
-
-writes_decided : (address : ℕ) (bytes : List ℕ) → IsDecided (Writes address bytes)
-writes_decided address bytes = then_decided (transaction_decided _) (λ nothing. ends_decided _)
-
-block_decided : (address : ℕ) → IsDecided (ReadsBlock address)
-block_decided address = then_decided (transaction_decided _) (λ bytes. ends_decided _)
-
-answers_regrouped : (xs front back : List Entry) (later : List Answer) → xs ≡ front ++ back → answers_of xs ++ later ≡ answers_of front ++ (answers_of back ++ later)
-answers_regrouped xs front back later e =
-    ap (λ zs. answers_of zs ++ later) e ∙ (ap (λ zs. zs ++ later) (answers_of-append front back) ∙ append_assoc (answers_of front) (answers_of back) later)
+use Rattle.dpx_link.specs.Training.{Capabilities, Capable, Never, Attempts, AfterAttempt, TrainsWith, TrainOutcome, Training, attempts_at_most, end_of}
 
 recovery_decided : (link : Link) → IsDecided (Recovery link)
 unfolding Recovery
@@ -56,11 +46,11 @@ after_decided caps link (Failed last cause) = ends_decided _
 after_decided caps link (Lost last) = ends_decided _
 after_decided caps link (Aux why) = ends_decided _
 
-phases_decided : (caps : Caps) (link : Link) → IsDecided (Phases caps link)
+phases_decided : (caps : Caps) (link : Link) → IsDecided (PhasesInTurn caps link)
 phases_decided caps link r s xs ys later after a b e =
     let grouped = sym (answers_regrouped xs a.front a.back later a.joined) ∙ (e ∙ answers_regrouped ys b.front b.back after b.joined) in
-    let same = recovery_decided link a.end b.end a.front b.front (answers_of a.back ++ later) (answers_of b.back ++ after) a.recovery b.recovery grouped in
-    let rest = append_cancel_left (answers_of a.front) (answers_of a.back ++ later) (answers_of b.back ++ after) (grouped ∙ ap (λ zs. answers_of zs ++ (answers_of b.back ++ after)) (sym same.0)) in
+    let same = recovery_decided link a.end b.end a.front b.front (answers_in a.back ++ later) (answers_in b.back ++ after) a.recovery b.recovery grouped in
+    let rest = append_cancel_left (answers_in a.front) (answers_in a.back ++ later) (answers_in b.back ++ after) (grouped ∙ ap (λ zs. answers_in zs ++ (answers_in b.back ++ after)) (sym same.0)) in
     let on = subst (λ (end : PhaseEnd). AfterRecovery caps link end s b.back) (sym same.1) b.goes_on in
     let ends = after_decided caps link a.end r s a.back b.back later after a.goes_on on rest in
     (a.joined ∙ (ap (λ zs. zs ++ a.back) same.0 ∙ (ap (λ zs. b.front ++ zs) ends.0 ∙ sym b.joined)), ends.1)
@@ -93,16 +83,16 @@ trains_with_decided caps first =
 
 capable_decided : (top : Link) (caps : Result Caps CapsBad) → IsDecided (Capable top caps)
 capable_decided top (Err why) = ends_decided _
-capable_decided top (Ok caps) = trains_with_decided caps (start_of caps top)
+capable_decided top (Ok caps) = trains_with_decided caps (caps_start caps top)
 
 capabilities_decided : IsDecided Capabilities
 unfolding Capabilities
 capabilities_decided =
-    then_decided (block_decided _) (λ block. choice_decided (says_extended block) (block_decided _) (ends_decided _))
+    then_decided (block_decided _) (λ block. choice_decided (has_extended block) (block_decided _) (ends_decided _))
 
-trains_decided : (top : Link) → IsDecided (Trains top)
-unfolding Trains
-trains_decided top = then_decided capabilities_decided (λ block. capable_decided top (caps_from block))
+trains_decided : (top : Link) → IsDecided (TrainOutcome top)
+unfolding TrainOutcome
+trains_decided top = then_decided capabilities_decided (λ block. capable_decided top (caps_read block))
 
 pub training_decided : (top : Link) → IsDecided (Training top)
 training_decided top r s xs ys later after a b e =

@@ -5,18 +5,17 @@ use Rattle.dpx_base.specs.declared.aux_port.Entry.{Entry}
 use Rattle.dpx_base.specs.declared.link.Link.{Link}
 use Rattle.dpx_base.specs.Port.{asks}
 use Rattle.dpx_aux.specs.declared.transaction.AuxEnd.{AuxEnd}
-use Rattle.dpx_aux.specs.Conversation.{Ends, ◌>>=◌}
+use Rattle.dpx_aux.specs.Conversation.{Ends, ◌>>=◌, ResultsAre}
 use Rattle.dpx_dpcd.specs.declared.caps.Caps.{Caps}
 use Rattle.dpx_dpcd.specs.declared.caps.CapsBad.{CapsBad}
 use Rattle.dpx_dpcd.specs.declared.pattern.Pattern.{Pattern}
 use Rattle.dpx_dpcd.specs.declared.status.Drive.{Drive}
 use Rattle.dpx_dpcd.specs.declared.status.Status6.{Status6}
-use Rattle.dpx_dpcd.specs.Caps.{caps_from, start_of}
+use Rattle.dpx_dpcd.specs.Caps.{caps_read, caps_start}
 use Rattle.dpx_dpcd.specs.Registers.{Writes}
 use Rattle.dpx_phase.specs.declared.phase_end.PhaseEnd.{PhaseEnd}
 use Rattle.dpx_phase.specs.declared.phase_end.PhaseEnd.TheVariants.{Done, Failed, Lost, Aux}
-use Rattle.dpx_phase.specs.Phases.{Equalisation, EndsEqualisation}
-use Rattle.dpx_phase.specs.Laws.{IsAlways}
+use Rattle.dpx_phase.specs.Equalisation.{Equalisation, EndsEqualisation}
 use Rattle.dpx_phase.proofs.Honest.{equalisation_honest, takes_always}
 use Rattle.dpx_link.specs.declared.attempt.AttemptEnd.{AttemptEnd}
 use Rattle.dpx_link.specs.declared.attempt.AttemptEnd.TheVariants as attempt
@@ -24,10 +23,9 @@ use Rattle.dpx_link.specs.declared.fallback.Next.{Next}
 use Rattle.dpx_link.specs.declared.fallback.Next.TheVariants.{Try, Stop}
 use Rattle.dpx_link.specs.declared.train_end.Verdict.{Verdict}
 use Rattle.dpx_link.specs.declared.train_end.Verdict.TheVariants as verdict
-use Rattle.dpx_link.specs.Attempt.{Attempt, Phases, AfterRecovery, Equalises, equalised, IsGoodEnd}
-use Rattle.dpx_link.specs.Fallback.{next_of, falls_back}
-use Rattle.dpx_link.specs.Laws.{ResultsAre}
-use Rattle.dpx_link.specs.Training.{Capable, Never, Attempts, AfterAttempt, TrainsWith, Trains, Training, attempts_at_most, end_of, IsGood, IsGoodVerdict}
+use Rattle.dpx_link.specs.Attempt.{Attempt, PhasesInTurn, AfterRecovery, Equalises, equalised, AttemptIsDone}
+use Rattle.dpx_link.specs.Fallback.{next_of, fall_back}
+use Rattle.dpx_link.specs.Training.{Capable, Never, Attempts, AfterAttempt, TrainsWith, TrainOutcome, Training, attempts_at_most, end_of, TrainedIsDone, VerdictIsDone}
 
 -- what follows the first part gives only such values
 next_good : {A B E : Type 0} (Is : B → Type 0) (first : Result A E → List Entry → Type 0) (next : A → Result B E → List Entry → Type 0) → ((value : A) → ResultsAre (next value) (λ given. IfOk given Is)) → (middle : Result A E) (given : Result B E) (back : List Entry) → MatchResult middle (λ value. next value given back) (λ error. (given ≡ Err error) × (back ≡ [])) → IfOk given Is
@@ -41,94 +39,94 @@ then_good Is first next good given history t = next_good Is first next good t.mi
 ends_good : {B E : Type 0} (Is : B → Type 0) (value : Result B E) → IfOk value Is → ResultsAre (Ends value) (λ given. IfOk given Is)
 ends_good Is value good given history e = subst (λ (r : Result _ _). IfOk r Is) (sym e.same) good
 
-equalisation_good : (link : Link) (chosen : Pattern) (drive : Drive) (interval : ℕ) → IsAlways (Equalisation link chosen drive interval) (EndsEqualisation link.lanes)
+equalisation_good : (link : Link) (chosen : Pattern) (drive : Drive) (interval : ℕ) → ResultsAre (Equalisation link chosen drive interval) (EndsEqualisation link.lanes)
 unfolding Equalisation
 equalisation_good link chosen drive interval =
     takes_always (EndsEqualisation link.lanes) _ _ _ (equalisation_honest link.lanes drive.registers) (λ why. tt)
 
-equalised_good : (link : Link) (end : PhaseEnd) → EndsEqualisation link.lanes end → IfOk (equalised end) (IsGoodEnd link.lanes)
+equalised_good : (link : Link) (end : PhaseEnd) → EndsEqualisation link.lanes end → IfOk (equalised end) (AttemptIsDone link.lanes)
 equalised_good link (Done drive last) e = e
 equalised_good link (Failed last cause) e = tt
 equalised_good link (Lost last) e = tt
 equalised_good link (Aux why) e = tt
 
-equalises_good : (caps : Caps) (link : Link) (drive : Drive) → ResultsAre (Equalises caps link drive) (λ given. IfOk given (IsGoodEnd link.lanes))
+equalises_good : (caps : Caps) (link : Link) (drive : Drive) → ResultsAre (Equalises caps link drive) (λ given. IfOk given (AttemptIsDone link.lanes))
 equalises_good caps link drive given history e =
-    subst (λ (r : Result AttemptEnd AuxEnd). IfOk r (IsGoodEnd link.lanes)) (sym e.means) (equalised_good link e.end (equalisation_good link _ drive caps.interval e.end history e.phase))
+    subst (λ (r : Result AttemptEnd AuxEnd). IfOk r (AttemptIsDone link.lanes)) (sym e.means) (equalised_good link e.end (equalisation_good link _ drive caps.interval e.end history e.phase))
 
-after_good : (caps : Caps) (link : Link) (end : PhaseEnd) → ResultsAre (AfterRecovery caps link end) (λ given. IfOk given (IsGoodEnd link.lanes))
+after_good : (caps : Caps) (link : Link) (end : PhaseEnd) → ResultsAre (AfterRecovery caps link end) (λ given. IfOk given (AttemptIsDone link.lanes))
 after_good caps link (Done drive last) = equalises_good caps link drive
-after_good caps link (Failed last cause) = ends_good (IsGoodEnd link.lanes) (Ok (attempt.Unrecovered last)) tt
-after_good caps link (Lost last) = ends_good (IsGoodEnd link.lanes) (Ok (attempt.Unrecovered last)) tt
-after_good caps link (Aux why) = ends_good (IsGoodEnd link.lanes) (Err why) tt
+after_good caps link (Failed last cause) = ends_good (AttemptIsDone link.lanes) (Ok (attempt.Unrecovered last)) tt
+after_good caps link (Lost last) = ends_good (AttemptIsDone link.lanes) (Ok (attempt.Unrecovered last)) tt
+after_good caps link (Aux why) = ends_good (AttemptIsDone link.lanes) (Err why) tt
 
-phases_good : (caps : Caps) (link : Link) → ResultsAre (Phases caps link) (λ given. IfOk given (IsGoodEnd link.lanes))
+phases_good : (caps : Caps) (link : Link) → ResultsAre (PhasesInTurn caps link) (λ given. IfOk given (AttemptIsDone link.lanes))
 phases_good caps link given history p = after_good caps link p.end given p.back p.goes_on
 
-attempt_good : (caps : Caps) (link : Link) → ResultsAre (Attempt caps link) (λ given. IfOk given (IsGoodEnd link.lanes))
+attempt_good : (caps : Caps) (link : Link) → ResultsAre (Attempt caps link) (λ given. IfOk given (AttemptIsDone link.lanes))
 unfolding Attempt
-attempt_good caps link = then_good (IsGoodEnd link.lanes) _ _ (λ configured. phases_good caps link)
+attempt_good caps link = then_good (AttemptIsDone link.lanes) _ _ (λ configured. phases_good caps link)
 
 -- a step to the next configuration, or a good verdict
 abbrev IsGoodNext : Next → Type 0
 IsGoodNext (Try link) = ⊤
-IsGoodNext (Stop verdict) = IsGoodVerdict verdict
+IsGoodNext (Stop verdict) = VerdictIsDone verdict
 
-falls_back_good : (last : Status6) (next : Option Link) → IsGoodNext (falls_back last next)
+falls_back_good : (last : Status6) (next : Option Link) → IsGoodNext (fall_back last next)
 falls_back_good last None = tt
 falls_back_good last (Some link) = tt
 
-next_of_good : (first link : Link) (end : AttemptEnd) → IsGoodEnd link.lanes end → IsGoodNext (next_of first link end)
+next_of_good : (first link : Link) (end : AttemptEnd) → AttemptIsDone link.lanes end → IsGoodNext (next_of first link end)
 next_of_good first link (attempt.Done drive last) good = good
 next_of_good first link (attempt.Unrecovered last) good = falls_back_good last _
 next_of_good first link (attempt.Unequalised last) good = falls_back_good last _
 
-after_attempt_good : (more : Link → Result Verdict AuxEnd → List Entry → Type 0) → ((link : Link) → ResultsAre (more link) (λ given. IfOk given IsGoodVerdict)) → (next : Next) → IsGoodNext next → ResultsAre (AfterAttempt more next) (λ given. IfOk given IsGoodVerdict)
+after_attempt_good : (more : Link → Result Verdict AuxEnd → List Entry → Type 0) → ((link : Link) → ResultsAre (more link) (λ given. IfOk given VerdictIsDone)) → (next : Next) → IsGoodNext next → ResultsAre (AfterAttempt more next) (λ given. IfOk given VerdictIsDone)
 after_attempt_good more good (Try link) n = good link
-after_attempt_good more good (Stop verdict) n = ends_good IsGoodVerdict (Ok verdict) n
+after_attempt_good more good (Stop verdict) n = ends_good VerdictIsDone (Ok verdict) n
 
 -- an attempt, and what follows it
-tried_good : (left : ℕ) (caps : Caps) (first link : Link) → ((lower : Link) → ResultsAre (Attempts left caps first lower) (λ given. IfOk given IsGoodVerdict)) → (middle : Result AttemptEnd AuxEnd) (given : Result Verdict AuxEnd) (back : List Entry) → IfOk middle (IsGoodEnd link.lanes) → MatchResult middle (λ end. AfterAttempt (Attempts left caps first) (next_of first link end) given back) (λ error. (given ≡ Err error) × (back ≡ [])) → IfOk given IsGoodVerdict
+tried_good : (left : ℕ) (caps : Caps) (first link : Link) → ((lower : Link) → ResultsAre (Attempts left caps first lower) (λ given. IfOk given VerdictIsDone)) → (middle : Result AttemptEnd AuxEnd) (given : Result Verdict AuxEnd) (back : List Entry) → IfOk middle (AttemptIsDone link.lanes) → MatchResult middle (λ end. AfterAttempt (Attempts left caps first) (next_of first link end) given back) (λ error. (given ≡ Err error) × (back ≡ [])) → IfOk given VerdictIsDone
 tried_good left caps first link good (Ok end) given back e on =
     after_attempt_good (Attempts left caps first) good (next_of first link end) (next_of_good first link end e) given back on
-tried_good left caps first link good (Err error) given back e on = subst (λ (r : Result Verdict AuxEnd). IfOk r IsGoodVerdict) (sym on.0) tt
+tried_good left caps first link good (Err error) given back e on = subst (λ (r : Result Verdict AuxEnd). IfOk r VerdictIsDone) (sym on.0) tt
 
 never_good : {R : Type 0} (Is : R → Type 0) → ResultsAre (Never {R = R}) Is
 never_good Is given history n = absurd n.never
 
-more_good : (left : ℕ) (caps : Caps) (first link : Link) → ((lower : Link) → ResultsAre (Attempts left caps first lower) (λ given. IfOk given IsGoodVerdict)) → ResultsAre (Attempt caps link >>= λ end. AfterAttempt (Attempts left caps first) (next_of first link end)) (λ given. IfOk given IsGoodVerdict)
+more_good : (left : ℕ) (caps : Caps) (first link : Link) → ((lower : Link) → ResultsAre (Attempts left caps first lower) (λ given. IfOk given VerdictIsDone)) → ResultsAre (Attempt caps link >>= λ end. AfterAttempt (Attempts left caps first) (next_of first link end)) (λ given. IfOk given VerdictIsDone)
 more_good left caps first link good given history t =
     tried_good left caps first link good t.middle given t.back (attempt_good caps link t.middle t.front t.begins) t.goes_on
 
-attempts_good : (left : ℕ) (caps : Caps) (first link : Link) → ResultsAre (Attempts left caps first link) (λ given. IfOk given IsGoodVerdict)
+attempts_good : (left : ℕ) (caps : Caps) (first link : Link) → ResultsAre (Attempts left caps first link) (λ given. IfOk given VerdictIsDone)
 unfolding Attempts
-attempts_good zero caps first link = never_good (λ given. IfOk given IsGoodVerdict)
+attempts_good zero caps first link = never_good (λ given. IfOk given VerdictIsDone)
 attempts_good (suc left) caps first link = more_good left caps first link (attempts_good left caps first)
 
 -- the attempts' verdict, and the closing write
-closed_good : (caps : Caps) (first : Link) (middle : Result Verdict AuxEnd) (given : Result Verdict AuxEnd) (back : List Entry) → IfOk middle IsGoodVerdict → MatchResult middle (λ verdict. (Writes 0x00102 (0x00 ∷ []) >>= λ closed. Ends (Ok verdict)) given back) (λ error. (given ≡ Err error) × (back ≡ [])) → IfOk given IsGoodVerdict
+closed_good : (caps : Caps) (first : Link) (middle : Result Verdict AuxEnd) (given : Result Verdict AuxEnd) (back : List Entry) → IfOk middle VerdictIsDone → MatchResult middle (λ verdict. (Writes 0x00102 (0x00 ∷ []) >>= λ closed. Ends (Ok verdict)) given back) (λ error. (given ≡ Err error) × (back ≡ [])) → IfOk given VerdictIsDone
 closed_good caps first (Ok verdict) given back good on =
-    then_good IsGoodVerdict (Writes 0x00102 (0x00 ∷ [])) (λ closed. Ends (Ok verdict)) (λ closed. ends_good IsGoodVerdict (Ok verdict) good) given back on
-closed_good caps first (Err error) given back good on = subst (λ (r : Result Verdict AuxEnd). IfOk r IsGoodVerdict) (sym on.0) tt
+    then_good VerdictIsDone (Writes 0x00102 (0x00 ∷ [])) (λ closed. Ends (Ok verdict)) (λ closed. ends_good VerdictIsDone (Ok verdict) good) given back on
+closed_good caps first (Err error) given back good on = subst (λ (r : Result Verdict AuxEnd). IfOk r VerdictIsDone) (sym on.0) tt
 
-trains_with_good : (caps : Caps) (first : Link) → ResultsAre (TrainsWith caps first) (λ given. IfOk given IsGoodVerdict)
+trains_with_good : (caps : Caps) (first : Link) → ResultsAre (TrainsWith caps first) (λ given. IfOk given VerdictIsDone)
 unfolding TrainsWith
 trains_with_good caps first =
-    then_good IsGoodVerdict _ _ (λ powered given history t. closed_good caps first t.middle given t.back (attempts_good attempts_at_most caps first first t.middle t.front t.begins) t.goes_on)
+    then_good VerdictIsDone _ _ (λ powered given history t. closed_good caps first t.middle given t.back (attempts_good attempts_at_most caps first first t.middle t.front t.begins) t.goes_on)
 
-capable_good : (top : Link) (caps : Result Caps CapsBad) → ResultsAre (Capable top caps) (λ given. IfOk given IsGoodVerdict)
-capable_good top (Err why) = ends_good IsGoodVerdict (Ok (verdict.CapsRefused why)) tt
-capable_good top (Ok caps) = trains_with_good caps (start_of caps top)
+capable_good : (top : Link) (caps : Result Caps CapsBad) → ResultsAre (Capable top caps) (λ given. IfOk given VerdictIsDone)
+capable_good top (Err why) = ends_good VerdictIsDone (Ok (verdict.CapsRefused why)) tt
+capable_good top (Ok caps) = trains_with_good caps (caps_start caps top)
 
-trains_good : (top : Link) → ResultsAre (Trains top) (λ given. IfOk given IsGoodVerdict)
-unfolding Trains
-trains_good top = then_good IsGoodVerdict _ _ (λ block. capable_good top (caps_from block))
+trains_good : (top : Link) → ResultsAre (TrainOutcome top) (λ given. IfOk given VerdictIsDone)
+unfolding TrainOutcome
+trains_good top = then_good VerdictIsDone _ _ (λ block. capable_good top (caps_read block))
 
-end_good : (requests : ℕ) (outcome : Result Verdict AuxEnd) → IfOk outcome IsGoodVerdict → IsGood (end_of requests outcome)
+end_good : (requests : ℕ) (outcome : Result Verdict AuxEnd) → IfOk outcome VerdictIsDone → TrainedIsDone (end_of requests outcome)
 end_good requests (Ok (verdict.Trained link drive last)) good = good
 end_good requests (Ok (verdict.NotTrained last)) good = tt
 end_good requests (Ok (verdict.CapsRefused why)) good = tt
 end_good requests (Err why) good = tt
 
-pub training_good : (top : Link) → ResultsAre (Training top) IsGood
-training_good top end history t = subst IsGood (sym t.ends) (end_good (asks history) t.outcome (trains_good top t.outcome history t.trains))
+pub training_good : (top : Link) → ResultsAre (Training top) TrainedIsDone
+training_good top end history t = subst TrainedIsDone (sym t.ends) (end_good (asks history) t.outcome (trains_good top t.outcome history t.trains))

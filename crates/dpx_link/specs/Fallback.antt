@@ -40,25 +40,25 @@ or_else (Some link) other = Some link
 or_else None other = other
 
 -- Where clock recovery failed, or was lost: the next lower rate; at RBR half the lanes, at the first rate again.
-abbrev pub after_recovery : Link → Link → Option Link
-after_recovery first link =
+abbrev pub after_failed_recovery : Link → Link → Option Link
+after_failed_recovery first link =
     or_else (at_rate link (slower_than link.rate))
     (on_lanes (record { rate = first.rate; lanes = link.lanes; enhanced = link.enhanced }) (half_of link.lanes))
 
 -- where equalisation failed: half the lanes; on one lane the next lower rate
-abbrev pub after_equalisation : Link → Option Link
-after_equalisation link = or_else (on_lanes link (half_of link.lanes)) (at_rate link (slower_than link.rate))
+abbrev pub after_failed_equalisation : Link → Option Link
+after_failed_equalisation link = or_else (on_lanes link (half_of link.lanes)) (at_rate link (slower_than link.rate))
 
 -- a configuration to try, or none is left
-abbrev pub falls_back : Status6 → Option Link → Next
-falls_back last None = Stop (NotTrained last)
-falls_back last (Some link) = Try link
+abbrev pub fall_back : Status6 → Option Link → Next
+fall_back last None = Stop (NotTrained last)
+fall_back last (Some link) = Try link
 
 -- what follows an attempt on a configuration that ended so, in a training that began with `first`
 abbrev pub next_of : Link → Link → AttemptEnd → Next
 next_of first link (Done drive last) = Stop (Trained link drive last)
-next_of first link (Unrecovered last) = falls_back last (after_recovery first link)
-next_of first link (Unequalised last) = falls_back last (after_equalisation link)
+next_of first link (Unrecovered last) = fall_back last (after_failed_recovery first link)
+next_of first link (Unequalised last) = fall_back last (after_failed_equalisation link)
 
 -- rates and lanes in their order
 abbrev pub rate_rank : Rate → ℕ

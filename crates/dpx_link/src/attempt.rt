@@ -1,9 +1,15 @@
-ghost use Rattle.std.specs.Prelude.{◌≡◌, ◌+◌, ◌^◌, ◌<◌, ◌≤◌, true, IfOk};
+ghost use Rattle.std.specs.Prelude.{◌≡◌, ◌+◌, ◌*◌, ◌≤◌, IfOk};
+ghost use Rattle.dpx_base.specs.Asks.{CanAsk, AsksAtMost};
 ghost use Rattle.dpx_aux.specs.Conversation.{Converses};
-ghost use Rattle.dpx_link.specs.Attempt.{Attempt, Configures, Phases, IsGoodEnd, lanes_byte, equalised};
+ghost use Rattle.dpx_aux.specs.Transaction.{asks_at_most};
+ghost use Rattle.dpx_phase.specs.Recovery.{recovery_asks};
+ghost use Rattle.dpx_phase.specs.Equalisation.{equalisation_asks};
+ghost use Rattle.dpx_link.specs.Attempt.{Attempt, Configures, PhasesInTurn, AttemptIsDone, lanes_byte, equalised};
+ghost use Rattle.dpx_link.specs.Attempt.{attempt_transactions};
 
 use dpx_aux::AuxEnd;
 use dpx_base::{AuxPort, Link};
+use dpx_dpcd::register_map::{DOWNSPREAD_CTRL, LINK_BW_SET};
 use dpx_dpcd::{Caps, Drive, Status6, write_registers};
 use dpx_phase::{PhaseEnd, equalise, recover};
 
@@ -18,10 +24,6 @@ pub(crate) enum AttemptEnd {
     Unequalised { last: Status6 },
 }
 
-const LINK_BW_SET: u32 = 0x0_0100;
-
-const DOWNSPREAD_CTRL: u32 = 0x0_0107;
-
 /// One attempt to train `link`.
 #[tactic(auto, unfolding(crate::specs::Attempt::Attempt))]
 pub(crate) fn attempt<P: AuxPort>(
@@ -30,10 +32,10 @@ pub(crate) fn attempt<P: AuxPort>(
     link: Link,
 ) -> Result<AttemptEnd, AuxEnd>
     requires interval { caps.now.interval ≤ 127 }
-    requires countable { (P.state port.old).asked + 256 < 2 ^ 64 }
+    requires countable { CanAsk (asks_at_most * attempt_transactions) (P.state port.old) }
     ensures attempt { Converses (Attempt caps.now link) (P.state port.old) (P.state port.new) result }
-    ensures few { (P.state port.new).asked ≤ (P.state port.old).asked + 256 }
-    ensures good { IfOk result (IsGoodEnd link.lanes) }
+    ensures few { AsksAtMost (asks_at_most * attempt_transactions) (P.state port.old) (P.state port.new) }
+    ensures good { IfOk result (AttemptIsDone link.lanes) }
 {
     configure(port, link)?;
     phases(port, caps, link)
@@ -42,9 +44,9 @@ pub(crate) fn attempt<P: AuxPort>(
 /// Tells the sink the rate, the lanes and the coding.
 #[tactic(auto, unfolding(crate::specs::Attempt::Configures))]
 fn configure<P: AuxPort>(port: &mut P, link: Link) -> Result<(), AuxEnd>
-    requires { (P.state port.old).asked + 16 < 2 ^ 64 }
+    requires { CanAsk (asks_at_most * 2) (P.state port.old) }
     ensures configures { Converses (Configures link) (P.state port.old) (P.state port.new) result }
-    ensures few { (P.state port.new).asked ≤ (P.state port.old).asked + 16 }
+    ensures few { AsksAtMost (asks_at_most * 2) (P.state port.old) (P.state port.new) }
 {
     let configuration = [link.rate.code(), lanes_byte(link)];
     write_registers(port, LINK_BW_SET, &configuration)?;
@@ -62,14 +64,14 @@ fn lanes_byte(link: Link) -> u8
 /// Clock recovery, and where that was done equalisation.
 fn phases<P: AuxPort>(port: &mut P, caps: &Caps, link: Link) -> Result<AttemptEnd, AuxEnd>
     requires interval { caps.now.interval ≤ 127 }
-    requires countable { (P.state port.old).asked + 240 < 2 ^ 64 }
-    ensures phases { Converses (Phases caps.now link) (P.state port.old) (P.state port.new) result }
-    ensures few { (P.state port.new).asked ≤ (P.state port.old).asked + 240 }
-    ensures good { IfOk result (IsGoodEnd link.lanes) }
+    requires countable { CanAsk (recovery_asks + equalisation_asks) (P.state port.old) }
+    ensures phases { Converses (PhasesInTurn caps.now link) (P.state port.old) (P.state port.new) result }
+    ensures few { AsksAtMost (recovery_asks + equalisation_asks) (P.state port.old) (P.state port.new) }
+    ensures good { IfOk result (AttemptIsDone link.lanes) }
 {
     match recover(port, link) {
         PhaseEnd::Done { drive, .. } => {
-            after_equalisation(equalise(port, link, caps.pattern(), drive, caps.interval))
+            equalised(equalise(port, link, caps.pattern(), drive, caps.interval))
         }
         PhaseEnd::Failed { last, .. } | PhaseEnd::Lost { last } => {
             Ok(AttemptEnd::Unrecovered { last })
@@ -79,7 +81,7 @@ fn phases<P: AuxPort>(port: &mut P, caps: &Caps, link: Link) -> Result<AttemptEn
 }
 
 /// What an end of equalisation means for the attempt.
-fn after_equalisation(end: PhaseEnd) -> Result<AttemptEnd, AuxEnd>
+fn equalised(end: PhaseEnd) -> Result<AttemptEnd, AuxEnd>
     ensures { result ≡ equalised end }
 {
     match end {

@@ -1,6 +1,6 @@
 ghost use Rattle.std.specs.Prelude.{◌≡◌};
-ghost use Rattle.dpx_link.specs.Fallback.{slower_than, half_of, after_recovery, after_equalisation, next_of};
-ghost use Rattle.dpx_link.specs.Fallback.{falls_back, Falls};
+ghost use Rattle.dpx_link.specs.Fallback.{slower_than, half_of, after_failed_recovery, after_failed_equalisation, next_of};
+ghost use Rattle.dpx_link.specs.Fallback.{fall_back, Falls};
 
 use crate::attempt::AttemptEnd;
 use crate::train_end::Verdict;
@@ -16,19 +16,19 @@ pub(crate) enum Next {
 }
 
 /// What follows an attempt on `link` that ended so, in a training that began with `first`.
-pub(crate) fn follow_up(first: Link, link: Link, end: AttemptEnd) -> Next
+pub(crate) fn next_of(first: Link, link: Link, end: AttemptEnd) -> Next
     ensures value { result ≡ next_of first link end }
     ensures falls { Falls link result }
 {
     match end {
         AttemptEnd::Done { drive, last } => Next::Stop(Verdict::Trained { link, drive, last }),
-        AttemptEnd::Unrecovered { last } => lower(after_failed_recovery(first, link), last),
-        AttemptEnd::Unequalised { last } => lower(after_failed_equalisation(link), last),
+        AttemptEnd::Unrecovered { last } => fall_back(after_failed_recovery(first, link), last),
+        AttemptEnd::Unequalised { last } => fall_back(after_failed_equalisation(link), last),
     }
 }
 
-fn lower(next: Option<Link>, last: Status6) -> Next
-    ensures { result ≡ falls_back last next }
+fn fall_back(next: Option<Link>, last: Status6) -> Next
+    ensures { result ≡ fall_back last next }
 {
     match next {
         Some(link) => Next::Try(link),
@@ -38,12 +38,12 @@ fn lower(next: Option<Link>, last: Status6) -> Next
 
 /// What is tried after an attempt on `link` that failed to recover its clock, or lost it again.
 fn after_failed_recovery(first: Link, link: Link) -> Option<Link>
-    ensures { result ≡ after_recovery first link }
+    ensures { result ≡ after_failed_recovery first link }
 {
-    match slower(link.rate) {
+    match slower_than(link.rate) {
         Some(rate) => Some(Link { rate, ..link }),
         None => {
-            let lanes = half(link.lanes)?;
+            let lanes = half_of(link.lanes)?;
             Some(Link {
                 rate: first.rate,
                 lanes,
@@ -55,18 +55,18 @@ fn after_failed_recovery(first: Link, link: Link) -> Option<Link>
 
 /// What is tried after an attempt on `link` that failed to equalise.
 fn after_failed_equalisation(link: Link) -> Option<Link>
-    ensures { result ≡ after_equalisation link }
+    ensures { result ≡ after_failed_equalisation link }
 {
-    match half(link.lanes) {
+    match half_of(link.lanes) {
         Some(lanes) => Some(Link { lanes, ..link }),
         None => {
-            let rate = slower(link.rate)?;
+            let rate = slower_than(link.rate)?;
             Some(Link { rate, ..link })
         }
     }
 }
 
-fn slower(rate: Rate) -> Option<Rate>
+fn slower_than(rate: Rate) -> Option<Rate>
     ensures { result ≡ slower_than rate }
 {
     match rate {
@@ -77,7 +77,7 @@ fn slower(rate: Rate) -> Option<Rate>
     }
 }
 
-fn half(lanes: Lanes) -> Option<Lanes>
+fn half_of(lanes: Lanes) -> Option<Lanes>
     ensures { result ≡ half_of lanes }
 {
     match lanes {

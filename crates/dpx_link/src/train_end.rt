@@ -47,7 +47,7 @@ pub(crate) enum Verdict {
 }
 
 /// How the training ended, after so many asks.
-pub(crate) fn ended(outcome: Result<Verdict, AuxEnd>, requests: u32) -> TrainEnd
+pub(crate) fn end_of(outcome: Result<Verdict, AuxEnd>, requests: u32) -> TrainEnd
     ensures { result ≡ end_of requests outcome }
 {
     match outcome {

@@ -1,46 +1,42 @@
-ghost use Rattle.std.specs.Prelude.{◌≡◌, ◌+◌, ◌^◌, ◌<◌, ◌≤◌, IfOk};
+ghost use Rattle.std.specs.Prelude.{◌≡◌, ◌+◌, ◌*◌, ◌≤◌, IfOk};
+ghost use Rattle.dpx_base.specs.Asks.{CanAsk, AsksAtMost};
 ghost use Rattle.dpx_aux.specs.Conversation.{Converses};
-ghost use Rattle.dpx_link.specs.Training.{Capabilities, Attempts, TrainsWith, Trains, Training, requests_of, IsGood};
-ghost use Rattle.dpx_link.specs.Training.{IsGoodVerdict, attempts_at_most};
+ghost use Rattle.dpx_aux.specs.Transaction.{asks_at_most};
+ghost use Rattle.dpx_link.specs.Attempt.{attempt_transactions};
+ghost use Rattle.dpx_link.specs.Training.{Capabilities, Attempts, TrainsWith, TrainOutcome, Training, requests_told, TrainedIsDone};
+ghost use Rattle.dpx_link.specs.Training.{VerdictIsDone, attempts_at_most, training_asks};
 
 use crate::attempt::attempt;
-use crate::fallback::{Next, follow_up};
-use crate::train_end::{TrainEnd, Verdict, ended};
+use crate::fallback::{Next, next_of};
+use crate::train_end::{TrainEnd, Verdict, end_of};
 use dpx_aux::AuxEnd;
 use dpx_base::{AuxPort, Link};
+use dpx_dpcd::register_map::{DP13_DPCD_REV, DPCD_REV, SET_POWER, TRAINING_PATTERN_SET};
 use dpx_dpcd::{Caps, has_extended, read_block, write_registers};
-
-const RECEIVER_CAPS: u32 = 0x0_0000;
-
-const EXTENDED_CAPS: u32 = 0x0_2200;
-
-const TRAINING_PATTERN: u32 = 0x0_0102;
-
-const SET_POWER: u32 = 0x0_0600;
 
 /// So many configurations there are: four rates on 4, 2 and 1 lanes.
 const ATTEMPTS: u32 = 12;
 
 /// Trains the link, from `top` downwards.
 pub fn train<P: AuxPort>(port: &mut P, top: Link) -> TrainEnd
-    requires { (P.state port.old).asked + 3104 < 2 ^ 64 }
+    requires { CanAsk training_asks (P.state port.old) }
     ensures training { Converses (Training top) (P.state port.old) (P.state port.new) result }
-    ensures few { (P.state port.new).asked ≤ (P.state port.old).asked + 3104 }
-    ensures counted { (P.state port.new).asked ≡ (P.state port.old).asked + requests_of result }
-    ensures good { IsGood result }
+    ensures few { AsksAtMost training_asks (P.state port.old) (P.state port.new) }
+    ensures counted { (P.state port.new).asked ≡ (P.state port.old).asked + requests_told result }
+    ensures good { TrainedIsDone result }
 {
     let before = port.asked();
     let outcome = converse(port, top);
-    ended(outcome, (port.asked() - before) as u32)
+    end_of(outcome, (port.asked() - before) as u32)
 }
 
 /// The whole conversation. A transaction that fails is its last.
-#[tactic(auto, unfolding(crate::specs::Training::Trains))]
+#[tactic(auto, unfolding(crate::specs::Training::TrainOutcome))]
 fn converse<P: AuxPort>(port: &mut P, top: Link) -> Result<Verdict, AuxEnd>
-    requires { (P.state port.old).asked + 3104 < 2 ^ 64 }
-    ensures trains { Converses (Trains top) (P.state port.old) (P.state port.new) result }
-    ensures few { (P.state port.new).asked ≤ (P.state port.old).asked + 3104 }
-    ensures good { IfOk result IsGoodVerdict }
+    requires { CanAsk training_asks (P.state port.old) }
+    ensures trains { Converses (TrainOutcome top) (P.state port.old) (P.state port.new) result }
+    ensures few { AsksAtMost training_asks (P.state port.old) (P.state port.new) }
+    ensures good { IfOk result VerdictIsDone }
 {
     let block = capabilities(port)?;
     match Caps::read(&block) {
@@ -52,13 +48,13 @@ fn converse<P: AuxPort>(port: &mut P, top: Link) -> Result<Verdict, AuxEnd>
 /// The block of capabilities in force.
 #[tactic(auto, unfolding(crate::specs::Training::Capabilities))]
 fn capabilities<P: AuxPort>(port: &mut P) -> Result<[u8; 16], AuxEnd>
-    requires { (P.state port.old).asked + 16 < 2 ^ 64 }
+    requires { CanAsk (asks_at_most * 2) (P.state port.old) }
     ensures capabilities { Converses Capabilities (P.state port.old) (P.state port.new) result }
-    ensures few { (P.state port.new).asked ≤ (P.state port.old).asked + 16 }
+    ensures few { AsksAtMost (asks_at_most * 2) (P.state port.old) (P.state port.new) }
 {
-    let block = read_block(port, RECEIVER_CAPS)?;
+    let block = read_block(port, DPCD_REV)?;
     if has_extended(&block) {
-        read_block(port, EXTENDED_CAPS)
+        read_block(port, DP13_DPCD_REV)
     } else {
         Ok(block)
     }
@@ -68,30 +64,30 @@ fn capabilities<P: AuxPort>(port: &mut P) -> Result<[u8; 16], AuxEnd>
 #[tactic(auto, unfolding(crate::specs::Training::TrainsWith))]
 fn train_with<P: AuxPort>(port: &mut P, caps: &Caps, first: Link) -> Result<Verdict, AuxEnd>
     requires interval { caps.now.interval ≤ 127 }
-    requires countable { (P.state port.old).asked + 3088 < 2 ^ 64 }
+    requires countable { CanAsk (asks_at_most * (2 + attempts_at_most * attempt_transactions)) (P.state port.old) }
     ensures trains { Converses (TrainsWith caps.now first) (P.state port.old) (P.state port.new) result }
-    ensures few { (P.state port.new).asked ≤ (P.state port.old).asked + 3088 }
-    ensures good { IfOk result IsGoodVerdict }
+    ensures few { AsksAtMost (asks_at_most * (2 + attempts_at_most * attempt_transactions)) (P.state port.old) (P.state port.new) }
+    ensures good { IfOk result VerdictIsDone }
 {
     write_registers(port, SET_POWER, &[0x01])?;
     let verdict = attempts(port, caps, first)?;
-    write_registers(port, TRAINING_PATTERN, &[0x00])?;
+    write_registers(port, TRAINING_PATTERN_SET, &[0x00])?;
     Ok(verdict)
 }
 
 /// Attempts from `first` on, along the fallback order, until one succeeds or none is left.
 fn attempts<P: AuxPort>(port: &mut P, caps: &Caps, first: Link) -> Result<Verdict, AuxEnd>
     requires interval { caps.now.interval ≤ 127 }
-    requires countable { (P.state port.old).asked + 3072 < 2 ^ 64 }
+    requires countable { CanAsk (asks_at_most * (attempts_at_most * attempt_transactions)) (P.state port.old) }
     ensures attempts { Converses (Attempts attempts_at_most caps.now first first)
         (P.state port.old) (P.state port.new) result }
-    ensures few { (P.state port.new).asked ≤ (P.state port.old).asked + 3072 }
-    ensures good { IfOk result IsGoodVerdict }
+    ensures few { AsksAtMost (asks_at_most * (attempts_at_most * attempt_transactions)) (P.state port.old) (P.state port.new) }
+    ensures good { IfOk result VerdictIsDone }
 {
     let mut link = first;
     for _ in 0..ATTEMPTS {
         let end = attempt(port, caps, link)?;
-        match follow_up(first, link, end) {
+        match next_of(first, link, end) {
             Next::Try(lower) => link = lower,
             Next::Stop(verdict) => return Ok(verdict),
         }

@@ -5,19 +5,19 @@ use Rattle.std.proofs.lemmas.List.{append-nil}
 use Rattle.dpx_base.specs.declared.aux_port.Entry.{Entry}
 use Rattle.dpx_aux.specs.declared.transaction.AuxEnd.{AuxEnd}
 use Rattle.dpx_aux.specs.Conversation.{Ends, ◌>>=◌, IsDecided}
-use Rattle.dpx_aux.proofs.Decided.{ends_decided, waits_decided, then_decided, transaction_decided}
+use Rattle.dpx_aux.proofs.Decided.{ends_decided, waits_decided, then_decided}
 use Rattle.dpx_dpcd.specs.declared.pattern.Pattern.{Pattern}
 use Rattle.dpx_dpcd.specs.declared.status.Status6.{Status6}
-use Rattle.dpx_dpcd.specs.Status.{level_of}
-use Rattle.dpx_dpcd.specs.Registers.{Writes}
+use Rattle.dpx_dpcd.specs.Status.{status_level}
+use Rattle.dpx_dpcd.proofs.Decided.{writes_decided, status_decided}
 use Rattle.dpx_phase.specs.declared.phase_end.PhaseEnd.{PhaseEnd}
-use Rattle.dpx_phase.specs.Phases.{Phase, ReadsLater, Adjusts, Round, Rounds, Concludes, LastRound, Follows, Takes, as_end}
+use Rattle.dpx_phase.specs.Phase.{Phase, ReadsLater, Adjusts, Round, Rounds, Concludes, LastRound, Follows, Takes, as_end}
 use Rattle.dpx_phase.proofs.Endings.{LooksBack}
 
 -- behind a status: the phase ends here, or its drive is written and the rest follows
 unfoldable pub Turn : Phase → Status6 → Option PhaseEnd → (Result PhaseEnd AuxEnd → List Entry → Type 0) → Result PhaseEnd AuxEnd → List Entry → Type 0
 Turn phase status (Some end) rest = Ends (Ok end)
-Turn phase status None rest = Adjusts phase.lanes (level_of phase.lanes status.bytes) >>= λ written. rest
+Turn phase status None rest = Adjusts phase.lanes (status_level phase.lanes status.bytes) >>= λ written. rest
 
 -- at most so many rounds, behind these statuses
 unfoldable pub Turns : Phase → ℕ → List Status6 → Result PhaseEnd AuxEnd → List Entry → Type 0
@@ -26,11 +26,8 @@ Turns phase zero before = λ given history. ⊥
 Turns phase (suc more) before =
     ReadsLater phase.pause >>= λ status. Turn phase status (phase.ending (before ++ status ∷ []) (length before + 1)) (Turns phase more (before ++ status ∷ []))
 
-writes_decided : (address : ℕ) (bytes : List ℕ) → IsDecided (Writes address bytes)
-writes_decided address bytes = then_decided (transaction_decided _) (λ nothing. ends_decided _)
-
 reads_decided : (pause : ℕ) → IsDecided (ReadsLater pause)
-reads_decided pause = then_decided (waits_decided pause) (λ waited. then_decided (transaction_decided _) (λ bytes. ends_decided _))
+reads_decided pause = then_decided (waits_decided pause) (λ waited. status_decided)
 
 turn_decided : (phase : Phase) (status : Status6) (found : Option PhaseEnd) (rest : Result PhaseEnd AuxEnd → List Entry → Type 0) → IsDecided rest → IsDecided (Turn phase status found rest)
 unfolding Turn
@@ -47,14 +44,14 @@ turns_decided phase (suc more) before =
     then_decided (reads_decided phase.pause) (λ status. turn_decided phase status _ _ (turns_decided phase more (before ++ status ∷ [])))
 
 -- the transactions of a whole round
-record RoundParts (phase : Phase) (status : Status6) (history : List Entry) : Type 0 where
+pub record RoundParts (phase : Phase) (status : Status6) (history : List Entry) : Type 0 where
   pub front : List Entry
   pub back : List Entry
   pub joined : history ≡ front ++ back
   pub reads : ReadsLater phase.pause (Ok status) front
-  pub writes : Adjusts phase.lanes (level_of phase.lanes status.bytes) (Ok tt) back
+  pub writes : Adjusts phase.lanes (status_level phase.lanes status.bytes) (Ok tt) back
 
-written_parts : (phase : Phase) (read x : Status6) (middle : Result ⊤ AuxEnd) (history front back front2 back2 : List Entry) → history ≡ front ++ back → ReadsLater phase.pause (Ok read) front → back ≡ front2 ++ back2 → Adjusts phase.lanes (level_of phase.lanes read.bytes) middle front2 → MatchResult middle (λ written. Ends {R = Result Status6 AuxEnd} (Ok read) (Ok x) back2) (λ error. (Ok x ≡ Err error) × (back2 ≡ [])) → RoundParts phase x history
+written_parts : (phase : Phase) (read x : Status6) (middle : Result ⊤ AuxEnd) (history front back front2 back2 : List Entry) → history ≡ front ++ back → ReadsLater phase.pause (Ok read) front → back ≡ front2 ++ back2 → Adjusts phase.lanes (status_level phase.lanes read.bytes) middle front2 → MatchResult middle (λ written. Ends {R = Result Status6 AuxEnd} (Ok read) (Ok x) back2) (λ error. (Ok x ≡ Err error) × (back2 ≡ [])) → RoundParts phase x history
 written_parts phase read x (Err error) history front back front2 back2 joined reads joined2 writes on = absurd (let e = on.0 in cc)
 written_parts phase read x (Ok nothing) history front back front2 back2 joined reads joined2 writes on =
     let same : read ≡ x = (let e = on.same in cc) in
@@ -66,12 +63,12 @@ written_parts phase read x (Ok nothing) history front back front2 back2 joined r
       writes = writes;
     })
 
-read_parts : (phase : Phase) (x : Status6) (middle : Result Status6 AuxEnd) (history front back : List Entry) → history ≡ front ++ back → ReadsLater phase.pause middle front → MatchResult middle (λ status. (Adjusts phase.lanes (level_of phase.lanes status.bytes) >>= λ written. Ends (Ok status)) (Ok x) back) (λ error. (Ok x ≡ Err error) × (back ≡ [])) → RoundParts phase x history
+read_parts : (phase : Phase) (x : Status6) (middle : Result Status6 AuxEnd) (history front back : List Entry) → history ≡ front ++ back → ReadsLater phase.pause middle front → MatchResult middle (λ status. (Adjusts phase.lanes (status_level phase.lanes status.bytes) >>= λ written. Ends (Ok status)) (Ok x) back) (λ error. (Ok x ≡ Err error) × (back ≡ [])) → RoundParts phase x history
 read_parts phase x (Err error) history front back joined reads on = absurd (let e = on.0 in cc)
 read_parts phase x (Ok status) history front back joined reads on =
     written_parts phase status x on.middle history front back on.front on.back joined reads on.joined on.begins on.goes_on
 
-round_parts : (phase : Phase) (x : Status6) (history : List Entry) → Round phase (Ok x) history → RoundParts phase x history
+pub round_parts : (phase : Phase) (x : Status6) (history : List Entry) → Round phase (Ok x) history → RoundParts phase x history
 round_parts phase x history r = read_parts phase x r.middle history r.front r.back r.joined r.begins r.goes_on
 
 -- the last round is a turn with nothing behind it

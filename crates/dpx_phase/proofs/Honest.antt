@@ -4,6 +4,7 @@ use Rattle.std.specs.Prelude.{⊤}
 use Rattle.dpx_base.specs.declared.aux_port.Entry.{Entry}
 use Rattle.dpx_base.specs.declared.lanes.Lanes.{Lanes}
 use Rattle.dpx_aux.specs.declared.transaction.AuxEnd.{AuxEnd}
+use Rattle.dpx_aux.specs.Conversation.{ResultsAre}
 use Rattle.dpx_dpcd.specs.declared.pattern.Pattern.{Pattern}
 use Rattle.dpx_dpcd.specs.declared.status.Status6.{Status6}
 use Rattle.dpx_dpcd.specs.Status.{cr_done, eq_done}
@@ -11,8 +12,9 @@ use Rattle.dpx_phase.specs.declared.phase_end.PhaseEnd.{PhaseEnd}
 use Rattle.dpx_phase.specs.declared.phase_end.PhaseEnd.TheVariants.{Done, Failed, Lost, Aux}
 use Rattle.dpx_phase.specs.declared.phase_end.FailCause.TheVariants.{MaxSwing, SameSwing, Reads}
 use Rattle.dpx_phase.specs.Endings.{first_of_four, recovery_ends, first_of_three, equalisation_ends}
-use Rattle.dpx_phase.specs.Phases.{Phase, Concludes, Follows, Takes, as_end, EndsRecovery, EndsEqualisation}
-use Rattle.dpx_phase.specs.Laws.{IsAlways}
+use Rattle.dpx_phase.specs.Equalisation.{EndsEqualisation}
+use Rattle.dpx_phase.specs.Phase.{Phase, Concludes, Follows, Takes, as_end}
+use Rattle.dpx_phase.specs.Recovery.{EndsRecovery}
 
 four : (lanes : Lanes) (recovered full alike tenth : Bool) (drive : List ℕ) (last : Status6) (end : PhaseEnd) → cr_done lanes last.bytes ≡ recovered → Some end ≡ first_of_four recovered full alike tenth drive last → EndsRecovery lanes end
 four lanes true full alike tenth drive last end r e = let same : Done (record { registers = drive }) last ≡ end = cc in subst (EndsRecovery lanes) same r
@@ -27,7 +29,7 @@ recovery_honest lanes statuses n end e = four lanes _ _ _ _ _ _ end refl (sym e)
 
 three : (lanes : Lanes) (recovered equalised fifth : Bool) (drive : List ℕ) (last : Status6) (end : PhaseEnd) → cr_done lanes last.bytes ≡ recovered → eq_done lanes last.bytes ≡ equalised → Some end ≡ first_of_three recovered equalised fifth drive last → EndsEqualisation lanes end
 three lanes false equalised fifth drive last end r q e = let same : Lost last ≡ end = cc in subst (EndsEqualisation lanes) same r
-three lanes true true fifth drive last end r q e = let same : Done (record { registers = drive }) last ≡ end = cc in subst (EndsEqualisation lanes) same (r, q)
+three lanes true true fifth drive last end r q e = let same : Done (record { registers = drive }) last ≡ end = cc in subst (EndsEqualisation lanes) same (record { recovered = r; equalised = q })
 three lanes true false true drive last end r q e = let same : Failed last Reads ≡ end = cc in subst (EndsEqualisation lanes) same (refl, r, q)
 three lanes true false false drive last end r q e = absurd (cc)
 
@@ -51,6 +53,6 @@ started : (Is : PhaseEnd → Type 0) (phase : Phase) (middle : Result ⊤ AuxEnd
 started Is phase (Ok written) given back ended failed on = followed Is phase given back ended failed on
 started Is phase (Err error) given back ended failed on = subst (λ (r : Result PhaseEnd AuxEnd). Is (as_end r)) (sym on.0) (failed error)
 
-pub takes_always : (Is : PhaseEnd → Type 0) (phase : Phase) (chosen : Pattern) (drive : List ℕ) → ((statuses : List Status6) (n : ℕ) (end : PhaseEnd) → phase.ending statuses n ≡ Some end → Is end) → ((why : AuxEnd) → Is (Aux why)) → IsAlways (Takes phase chosen drive) Is
+pub takes_always : (Is : PhaseEnd → Type 0) (phase : Phase) (chosen : Pattern) (drive : List ℕ) → ((statuses : List Status6) (n : ℕ) (end : PhaseEnd) → phase.ending statuses n ≡ Some end → Is end) → ((why : AuxEnd) → Is (Aux why)) → ResultsAre (Takes phase chosen drive) Is
 takes_always Is phase chosen drive ended failed given history t =
     subst Is (sym t.same) (started Is phase t.done.middle t.result t.done.back ended failed t.done.goes_on)

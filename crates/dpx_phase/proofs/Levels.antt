@@ -5,11 +5,12 @@ use Rattle.dpx_base.specs.Port.{PortState}
 use Rattle.dpx_aux.specs.declared.transaction.AuxEnd.{AuxEnd}
 use Rattle.dpx_aux.specs.Conversation.{Converses}
 use Rattle.dpx_dpcd.specs.declared.status.Status6.{Status6}
-use Rattle.dpx_dpcd.specs.Status.{level_of}
+use Rattle.dpx_dpcd.specs.Status.{status_level}
 use Rattle.dpx_phase.specs.declared.phase_end.PhaseEnd.{PhaseEnd}
 use Rattle.dpx_phase.specs.Drives.{no_drive, drive_after, same_swings}
 use Rattle.dpx_phase.specs.Endings.{alike_after, recovery_end, recovery_ends}
-use Rattle.dpx_phase.specs.Phases.{recovery, ReadsLater, Adjusts, Follows}
+use Rattle.dpx_phase.specs.Phase.{ReadsLater, Adjusts, Follows}
+use Rattle.dpx_phase.specs.Recovery.{recovery}
 use Rattle.dpx_phase.proofs.Statuses.{drive_after-append, drive_after_end}
 use Rattle.dpx_phase.proofs.Alike.{run, run-zero, run-more, run-same, run-few, alike_after-append}
 use Rattle.dpx_phase.proofs.Endings.{recovery_at, recovery_looks_back}
@@ -44,12 +45,12 @@ pub found : {Plan : Type 0} {lanes : Lanes} {count alike : ℕ} {drive : List �
 found {lanes = lanes} {alike = alike} {drive = drive} n status end r counted given =
     recovery_at lanes r.statuses status n drive alike (omega (arith, counted, r.counted)) r.goes.tracks r.runs ∙ sym given
 
-runs_on : (lanes : Lanes) (xs : List Status6) (x : Status6) (drive : List ℕ) (alike : ℕ) → drive ≡ drive_after lanes no_drive xs (length xs) → alike ≡ run (alike_after lanes no_drive xs) (length xs) → (if same_swings lanes drive (level_of lanes x.bytes) then alike + 1 else 1) ≡ run (alike_after lanes no_drive (xs ++ x ∷ [])) (length (xs ++ x ∷ []))
+runs_on : (lanes : Lanes) (xs : List Status6) (x : Status6) (drive : List ℕ) (alike : ℕ) → drive ≡ drive_after lanes no_drive xs (length xs) → alike ≡ run (alike_after lanes no_drive xs) (length xs) → (if same_swings lanes drive (status_level lanes x.bytes) then alike + 1 else 1) ≡ run (alike_after lanes no_drive (xs ++ x ∷ [])) (length (xs ++ x ∷ []))
 runs_on lanes xs x drive alike tracks runs =
     let more = xs ++ x ∷ [] in
     let same : run (alike_after lanes no_drive more) (length xs) ≡ run (alike_after lanes no_drive xs) (length xs) = run-same _ _ (length xs) (λ k l. alike_after-append lanes no_drive xs (x ∷ []) k (omega arith)) in
     let now : drive_after lanes no_drive more (length xs) ≡ drive = drive_after-append lanes no_drive xs (x ∷ []) (length xs) (omega arith) ∙ sym tracks in
-    let next : drive_after lanes no_drive more (length xs + 1) ≡ level_of lanes x.bytes = drive_after_end lanes no_drive xs x in
+    let next : drive_after lanes no_drive more (length xs + 1) ≡ status_level lanes x.bytes = drive_after_end lanes no_drive xs x in
     sym (
     ap (run (alike_after lanes no_drive more)) (length-append xs (x ∷ []))
     ∙ run-more (alike_after lanes no_drive more) (length xs)
@@ -61,12 +62,12 @@ runs_on lanes xs x drive alike tracks runs =
 pub record RoundOf {Plan : Type 0} (lanes : Lanes) (n : ℕ) (drive : List ℕ) (alike : ℕ) (status : Status6) (before later now : PortState Plan) : Type 0 where
   pub reads : Converses (ReadsLater 100) before later (Ok status)
   pub ends_nothing : None ≡ recovery_end lanes (nat_le 5 alike) n drive status
-  pub writes : Converses (Adjusts lanes (level_of lanes status.bytes)) later now (Ok tt)
+  pub writes : Converses (Adjusts lanes (status_level lanes status.bytes)) later now (Ok tt)
   pub few : n < 10
   pub read_few : later.asked ≤ before.asked + 8
   pub write_few : now.asked ≤ later.asked + 8
 
-pub recovers_on : {Plan : Type 0} {lanes : Lanes} {count alike n : ℕ} {drive : List ℕ} {before middle later now : PortState Plan} {status : Status6} → Recovers lanes count drive alike before middle → RoundOf lanes n drive alike status middle later now → n ≡ count + 1 → Recovers lanes n (level_of lanes status.bytes) (if same_swings lanes drive (level_of lanes status.bytes) then alike + 1 else 1) before now
+pub recovers_on : {Plan : Type 0} {lanes : Lanes} {count alike n : ℕ} {drive : List ℕ} {before middle later now : PortState Plan} {status : Status6} → Recovers lanes count drive alike before middle → RoundOf lanes n drive alike status middle later now → n ≡ count + 1 → Recovers lanes n (status_level lanes status.bytes) (if same_swings lanes drive (status_level lanes status.bytes) then alike + 1 else 1) before now
 recovers_on {lanes = lanes} {alike = alike} {n = n} {drive = drive} {status = status} r round counted = record {
   statuses = r.statuses ++ status ∷ [];
   counted = omega (arith, length-append r.statuses (status ∷ []), r.counted, counted);
@@ -82,5 +83,5 @@ recovered {status = status} {end = end} r n counted reads given = ends_at r.goes
 pub unread_recovery : {Plan : Type 0} {lanes : Lanes} {count alike : ℕ} {drive : List ℕ} {before middle now : PortState Plan} {why : AuxEnd} → Recovers lanes count drive alike before middle → Converses (ReadsLater 100) middle now (Err why) → Converses (Follows (recovery lanes)) before now (Err why)
 unread_recovery r reads = unread r.goes reads
 
-pub unwritten_recovery : {Plan : Type 0} {lanes : Lanes} {count alike : ℕ} {drive : List ℕ} {before middle later now : PortState Plan} {status : Status6} {why : AuxEnd} → Recovers lanes count drive alike before middle → (n : ℕ) → n ≡ count + 1 → Converses (ReadsLater 100) middle later (Ok status) → None ≡ recovery_end lanes (nat_le 5 alike) n drive status → Converses (Adjusts lanes (level_of lanes status.bytes)) later now (Err why) → Converses (Follows (recovery lanes)) before now (Err why)
+pub unwritten_recovery : {Plan : Type 0} {lanes : Lanes} {count alike : ℕ} {drive : List ℕ} {before middle later now : PortState Plan} {status : Status6} {why : AuxEnd} → Recovers lanes count drive alike before middle → (n : ℕ) → n ≡ count + 1 → Converses (ReadsLater 100) middle later (Ok status) → None ≡ recovery_end lanes (nat_le 5 alike) n drive status → Converses (Adjusts lanes (status_level lanes status.bytes)) later now (Err why) → Converses (Follows (recovery lanes)) before now (Err why)
 unwritten_recovery {status = status} r n counted reads given writes = unwritten r.goes reads (found n status None r counted given) writes

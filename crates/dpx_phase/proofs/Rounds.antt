@@ -9,11 +9,11 @@ use Rattle.dpx_aux.specs.declared.transaction.AuxEnd.{AuxEnd}
 use Rattle.dpx_aux.specs.Conversation.{Converses}
 use Rattle.dpx_aux.proofs.Parts.{ends, then_ok, then_err}
 use Rattle.dpx_dpcd.specs.declared.status.Status6.{Status6}
-use Rattle.dpx_dpcd.specs.Status.{level_of}
+use Rattle.dpx_dpcd.specs.Status.{status_level}
 use Rattle.dpx_phase.specs.declared.phase_end.PhaseEnd.{PhaseEnd}
 use Rattle.dpx_phase.specs.Drives.{drive_after}
 use Rattle.dpx_phase.specs.Endings.{EndsNothing}
-use Rattle.dpx_phase.specs.Phases.{Phase, ReadsLater, Adjusts, Round, Rounds, Fails, Concludes, LastRound, Follows}
+use Rattle.dpx_phase.specs.Phase.{Phase, ReadsLater, Adjusts, Round, Rounds, Fails, Concludes, LastRound, Follows}
 use Rattle.dpx_phase.proofs.Statuses.{drive_after_end}
 use Rattle.dpx_phase.proofs.Endings.{LooksBack}
 
@@ -34,7 +34,7 @@ goes_not_yet phase first state = record {
   rounds = refl;
 }
 
-Rounds-push : (phase : Phase) (xs : List Status6) (x : Status6) (before last : List Entry) → Rounds phase xs before → Round phase (Ok x) last → Rounds phase (xs ++ x ∷ []) (before ++ last)
+pub Rounds-push : (phase : Phase) (xs : List Status6) (x : Status6) (before last : List Entry) → Rounds phase xs before → Round phase (Ok x) last → Rounds phase (xs ++ x ∷ []) (before ++ last)
 Rounds-push phase [] x before last rounds round = record {
   front = last;
   back = [];
@@ -50,7 +50,7 @@ Rounds-push phase (y ∷ ys) x before last rounds round = record {
   goes_on = Rounds-push phase ys x rounds.back last rounds.goes_on round;
 }
 
-EndsNothing-push : (ending : List Status6 → ℕ → Option PhaseEnd) (xs : List Status6) (x : Status6) → LooksBack ending → EndsNothing ending xs → ending (xs ++ x ∷ []) (length xs + 1) ≡ None → EndsNothing ending (xs ++ x ∷ [])
+pub EndsNothing-push : (ending : List Status6 → ℕ → Option PhaseEnd) (xs : List Status6) (x : Status6) → LooksBack ending → EndsNothing ending xs → ending (xs ++ x ∷ []) (length xs + 1) ≡ None → EndsNothing ending (xs ++ x ∷ [])
 EndsNothing-push ending xs x looks unended none n some few =
     elim (cases_eq n (length xs + 1)) [
       | inl e ↦ subst (λ (k : ℕ). ending (xs ++ x ∷ []) k ≡ None) (sym e) none
@@ -58,7 +58,7 @@ EndsNothing-push ending xs x looks unended none n some few =
     ]
 
 -- one more status that ends nothing, and its drive is written
-pub goes_on : {Plan : Type 0} {phase : Phase} {first drive : List ℕ} {statuses : List Status6} {before middle later now : PortState Plan} {status : Status6} → Goes phase first statuses drive before middle → LooksBack phase.ending → Converses (ReadsLater phase.pause) middle later (Ok status) → phase.ending (statuses ++ status ∷ []) (length statuses + 1) ≡ None → Converses (Adjusts phase.lanes (level_of phase.lanes status.bytes)) later now (Ok tt) → Goes phase first (statuses ++ status ∷ []) (level_of phase.lanes status.bytes) before now
+pub goes_on : {Plan : Type 0} {phase : Phase} {first drive : List ℕ} {statuses : List Status6} {before middle later now : PortState Plan} {status : Status6} → Goes phase first statuses drive before middle → LooksBack phase.ending → Converses (ReadsLater phase.pause) middle later (Ok status) → phase.ending (statuses ++ status ∷ []) (length statuses + 1) ≡ None → Converses (Adjusts phase.lanes (status_level phase.lanes status.bytes)) later now (Ok tt) → Goes phase first (statuses ++ status ∷ []) (status_level phase.lanes status.bytes) before now
 goes_on {phase = phase} {first = first} {statuses = statuses} {now = now} {status = status} goes looks reads none writes =
     let round : Converses (Round phase) _ now (Ok status) = then_ok reads (then_ok writes (ends now (Ok status))) in
     record {
@@ -95,6 +95,6 @@ unread goes reads = finish goes (then_err reads)
 fails : {Plan A B E : Type 0} {before now : PortState Plan} {part : Result A E → List Entry → Type 0} {why : E} → Converses part before now (Err why) → Converses (Fails {B = B} part) before now (Err why)
 fails {why = why} c = record { entries = c.entries; added = c.added; done = record { why = why; same = refl; failed = c.done } }
 
-pub unwritten : {Plan : Type 0} {phase : Phase} {first drive : List ℕ} {statuses : List Status6} {before middle later now : PortState Plan} {status : Status6} {why : AuxEnd} → Goes phase first statuses drive before middle → Converses (ReadsLater phase.pause) middle later (Ok status) → phase.ending (statuses ++ status ∷ []) (length statuses + 1) ≡ None → Converses (Adjusts phase.lanes (level_of phase.lanes status.bytes)) later now (Err why) → Converses (Follows phase) before now (Err why)
+pub unwritten : {Plan : Type 0} {phase : Phase} {first drive : List ℕ} {statuses : List Status6} {before middle later now : PortState Plan} {status : Status6} {why : AuxEnd} → Goes phase first statuses drive before middle → Converses (ReadsLater phase.pause) middle later (Ok status) → phase.ending (statuses ++ status ∷ []) (length statuses + 1) ≡ None → Converses (Adjusts phase.lanes (status_level phase.lanes status.bytes)) later now (Err why) → Converses (Follows phase) before now (Err why)
 unwritten {phase = phase} {later = later} {now = now} {status = status} {why = why} goes reads none writes =
     finish goes (then_ok reads (subst (λ (found : Option PhaseEnd). Converses (Concludes phase status found) later now (Err why)) (sym none) (fails writes)))

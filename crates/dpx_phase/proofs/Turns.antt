@@ -5,10 +5,11 @@ use Rattle.dpx_base.specs.Port.{PortState}
 use Rattle.dpx_aux.specs.declared.transaction.AuxEnd.{AuxEnd}
 use Rattle.dpx_aux.specs.Conversation.{Converses}
 use Rattle.dpx_dpcd.specs.declared.status.Status6.{Status6}
-use Rattle.dpx_dpcd.specs.Status.{level_of}
+use Rattle.dpx_dpcd.specs.Status.{status_level}
 use Rattle.dpx_phase.specs.declared.phase_end.PhaseEnd.{PhaseEnd}
 use Rattle.dpx_phase.specs.Endings.{equalisation_end, equalisation_ends}
-use Rattle.dpx_phase.specs.Phases.{equalisation, ReadsLater, Adjusts, Follows}
+use Rattle.dpx_phase.specs.Equalisation.{equalisation}
+use Rattle.dpx_phase.specs.Phase.{ReadsLater, Adjusts, Follows}
 use Rattle.dpx_phase.proofs.Endings.{equalisation_at, equalisation_looks_back}
 use Rattle.dpx_phase.proofs.Rounds.{Goes, goes_not_yet, goes_on, ends_at, unread, unwritten}
 
@@ -38,12 +39,12 @@ found {lanes = lanes} {first = first} {drive = drive} n status end r counted giv
 pub record TurnOf {Plan : Type 0} (lanes : Lanes) (pause n : ℕ) (drive : List ℕ) (status : Status6) (before later now : PortState Plan) : Type 0 where
   pub reads : Converses (ReadsLater pause) before later (Ok status)
   pub ends_nothing : None ≡ equalisation_end lanes n drive status
-  pub writes : Converses (Adjusts lanes (level_of lanes status.bytes)) later now (Ok tt)
+  pub writes : Converses (Adjusts lanes (status_level lanes status.bytes)) later now (Ok tt)
   pub few : n < 5
   pub read_few : later.asked ≤ before.asked + 8
   pub write_few : now.asked ≤ later.asked + 8
 
-pub equalises_on : {Plan : Type 0} {lanes : Lanes} {first : List ℕ} {pause count n : ℕ} {drive : List ℕ} {before middle later now : PortState Plan} {status : Status6} → Equalises lanes first pause count drive before middle → TurnOf lanes pause n drive status middle later now → n ≡ count + 1 → Equalises lanes first pause n (level_of lanes status.bytes) before now
+pub equalises_on : {Plan : Type 0} {lanes : Lanes} {first : List ℕ} {pause count n : ℕ} {drive : List ℕ} {before middle later now : PortState Plan} {status : Status6} → Equalises lanes first pause count drive before middle → TurnOf lanes pause n drive status middle later now → n ≡ count + 1 → Equalises lanes first pause n (status_level lanes status.bytes) before now
 equalises_on {lanes = lanes} {first = first} {n = n} {status = status} r turn counted = record {
   statuses = r.statuses ++ status ∷ [];
   counted = omega (arith, length-append r.statuses (status ∷ []), r.counted, counted);
@@ -58,5 +59,5 @@ equalised {status = status} {end = end} r n counted reads given = ends_at r.goes
 pub unread_equalisation : {Plan : Type 0} {lanes : Lanes} {first : List ℕ} {pause count : ℕ} {drive : List ℕ} {before middle now : PortState Plan} {why : AuxEnd} → Equalises lanes first pause count drive before middle → Converses (ReadsLater pause) middle now (Err why) → Converses (Follows (equalisation lanes first pause)) before now (Err why)
 unread_equalisation r reads = unread r.goes reads
 
-pub unwritten_equalisation : {Plan : Type 0} {lanes : Lanes} {first : List ℕ} {pause count : ℕ} {drive : List ℕ} {before middle later now : PortState Plan} {status : Status6} {why : AuxEnd} → Equalises lanes first pause count drive before middle → (n : ℕ) → n ≡ count + 1 → Converses (ReadsLater pause) middle later (Ok status) → None ≡ equalisation_end lanes n drive status → Converses (Adjusts lanes (level_of lanes status.bytes)) later now (Err why) → Converses (Follows (equalisation lanes first pause)) before now (Err why)
+pub unwritten_equalisation : {Plan : Type 0} {lanes : Lanes} {first : List ℕ} {pause count : ℕ} {drive : List ℕ} {before middle later now : PortState Plan} {status : Status6} {why : AuxEnd} → Equalises lanes first pause count drive before middle → (n : ℕ) → n ≡ count + 1 → Converses (ReadsLater pause) middle later (Ok status) → None ≡ equalisation_end lanes n drive status → Converses (Adjusts lanes (status_level lanes status.bytes)) later now (Err why) → Converses (Follows (equalisation lanes first pause)) before now (Err why)
 unwritten_equalisation {status = status} r n counted reads given writes = unwritten r.goes reads (found n status None r counted given) writes

@@ -2,9 +2,9 @@
 -- 00106.
 use Rattle.std.specs.Prelude.{ℕ, ◌%◌, ◌==◌, Bool, List, [], ◌∷◌, map, take, get_or, slice_index}
 use Rattle.dpx_base.specs.declared.lanes.Lanes.{Lanes}
-use Rattle.dpx_base.specs.Lanes.{count_of, every_lane}
+use Rattle.dpx_base.specs.Lanes.{lanes_count, every_lane}
 use Rattle.dpx_dpcd.specs.declared.status.Status6.{Status6}
-use Rattle.dpx_dpcd.specs.Status.{level_of}
+use Rattle.dpx_dpcd.specs.Status.{status_level}
 
 -- no swing and no emphasis on any lane
 abbrev pub no_drive : List ℕ
@@ -12,11 +12,11 @@ no_drive = 0 ∷ 0 ∷ 0 ∷ 0 ∷ []
 
 -- the bytes of the lanes in use
 abbrev pub used : Lanes → List ℕ → List ℕ
-used lanes drive = take (count_of lanes) drive
+used lanes drive = take (lanes_count lanes) drive
 
 -- the drive that a phase starts with, and then the level of each status
 abbrev pub drives : Lanes → List ℕ → List Status6 → List (List ℕ)
-drives lanes first statuses = first ∷ map (λ status. level_of lanes status.bytes) statuses
+drives lanes first statuses = first ∷ map (λ status. status_level lanes status.bytes) statuses
 
 -- the drive that is in force after so many statuses
 abbrev pub drive_after : Lanes → List ℕ → List Status6 → ℕ → List ℕ

@@ -10,6 +10,13 @@ use Rattle.dpx_phase.specs.declared.phase_end.PhaseEnd.TheVariants.{Done, Failed
 use Rattle.dpx_phase.specs.declared.phase_end.FailCause.TheVariants.{MaxSwing, SameSwing, Reads}
 use Rattle.dpx_phase.specs.Drives.{no_drive, drive_after, at_full_swing, same_swings}
 
+-- how many statuses a phase reads at most
+abbrev pub recovery_reads : ℕ
+recovery_reads = 10
+
+abbrev pub equalisation_reads : ℕ
+equalisation_reads = 5
+
 -- the status that was read as the nth
 abbrev pub status_at : List Status6 → ℕ → Status6
 status_at statuses n = get_or statuses (n - 1) (record { bytes = [] })
@@ -40,7 +47,7 @@ first_of_four recovered full alike tenth drive last =
 -- how recovery ends at its nth status, if it does, with this drive in force
 abbrev pub recovery_end : Lanes → (alike : Bool) → ℕ → List ℕ → Status6 → Option PhaseEnd
 recovery_end lanes alike n drive last =
-    first_of_four (cr_done lanes last.bytes) (at_full_swing lanes drive) alike (n == 10) drive last
+    first_of_four (cr_done lanes last.bytes) (at_full_swing lanes drive) alike (n == recovery_reads) drive last
 
 -- Clock recovery at the nth status: it has the clocks; or every lane in use was at full swing; or five drives in a row
 -- had equal swings; or it is the tenth.
@@ -60,7 +67,7 @@ first_of_three recovered equalised fifth drive last =
 -- how equalisation ends at its nth status, if it does, with this drive in force
 abbrev pub equalisation_end : Lanes → ℕ → List ℕ → Status6 → Option PhaseEnd
 equalisation_end lanes n drive last =
-    first_of_three (cr_done lanes last.bytes) (eq_done lanes last.bytes) (n == 5) drive last
+    first_of_three (cr_done lanes last.bytes) (eq_done lanes last.bytes) (n == equalisation_reads) drive last
 
 -- Channel equalisation at the nth status, where it began with this drive: clock recovery is lost; or the lanes are
 -- equalised and aligned; or it is the fifth.

@@ -16,7 +16,3 @@ abbrev pub EndsWithin : ℕ → (List Status6 → ℕ → Option PhaseEnd) → T
 EndsWithin count ending =
     (statuses : List Status6) → length statuses ≡ count
     → (n : ℕ) × (end : PhaseEnd) × (n ≤ count) × EndsAt ending (take n statuses) end
-
--- every end of a phase is such
-abbrev pub IsAlways : (PhaseEnd → List Entry → Type 0) → (PhaseEnd → Type 0) → Type 0
-IsAlways phase Is = (given : PhaseEnd) (history : List Entry) → phase given history → Is given

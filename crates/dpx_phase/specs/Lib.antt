@@ -1,4 +1,7 @@
 pub mod Drives
 pub mod Endings
+pub mod Equalisation
+pub mod LastStatus
 pub mod Laws
-pub mod Phases
+pub mod Phase
+pub mod Recovery

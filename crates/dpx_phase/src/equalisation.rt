@@ -1,10 +1,13 @@
-ghost use Rattle.std.specs.Prelude.{◌≡◌, ◌+◌, ◌^◌, ◌<◌, ◌≤◌, ◌≢◌, IfOk, IfSome, IfNone};
+ghost use Rattle.std.specs.Prelude.{◌≡◌, ◌+◌, ◌*◌, ◌<◌, ◌≤◌, ◌≢◌, IfOk, IfSome, IfNone};
+ghost use Rattle.dpx_base.specs.Asks.{CanAsk, AsksAtMost};
 ghost use Rattle.dpx_aux.specs.Conversation.{Converses};
+ghost use Rattle.dpx_aux.specs.Transaction.{asks_at_most};
 ghost use Rattle.dpx_dpcd.specs.declared.pattern.Pattern.{Pattern};
 ghost use Rattle.dpx_dpcd.specs.Status.{cr_done, eq_done};
-ghost use Rattle.dpx_phase.specs.Endings.{equalisation_end};
-ghost use Rattle.dpx_phase.specs.Phases.{Runs, Follows, Equalisation, equalisation, pause_of};
-ghost use Rattle.dpx_phase.specs.Phases.{EndsEqualisation};
+ghost use Rattle.dpx_phase.specs.Endings.{equalisation_reads, equalisation_end};
+ghost use Rattle.dpx_phase.specs.Phase.{Runs, Follows, rounds_transactions};
+ghost use Rattle.dpx_phase.specs.Equalisation.{Equalisation, equalisation, pause_of, equalisation_asks};
+ghost use Rattle.dpx_phase.specs.Equalisation.{EndsEqualisation};
 
 use crate::steps::{read_later, write_drive, write_start};
 use crate::{FailCause, PhaseEnd};
@@ -17,7 +20,7 @@ const READS: u8 = 5;
 
 /// Channel equalisation: the pattern with the drive that recovery ended with, and then the drives that the
 /// sink asks for. `interval` is the read interval of the capabilities.
-#[tactic(auto, unfolding(crate::specs::Phases::Equalisation))]
+#[tactic(auto, unfolding(crate::specs::Equalisation::Equalisation))]
 pub fn equalise<P: AuxPort>(
     port: &mut P,
     link: Link,
@@ -27,20 +30,20 @@ pub fn equalise<P: AuxPort>(
 ) -> PhaseEnd
     requires later { pattern ≢ Pattern.Tps1 }
     requires interval { interval ≤ 127 }
-    requires countable { (P.state port.old).asked + 80 < 2 ^ 64 }
+    requires countable { CanAsk equalisation_asks (P.state port.old) }
     ensures phase { Converses (Equalisation link pattern drive interval)
         (P.state port.old) (P.state port.new) result }
-    ensures few { (P.state port.new).asked ≤ (P.state port.old).asked + 80 }
+    ensures few { AsksAtMost equalisation_asks (P.state port.old) (P.state port.new) }
     ensures end { EndsEqualisation link.lanes result }
 {
-    match start(port, link.lanes, pattern, drive, pause(interval)) {
+    match start(port, link.lanes, pattern, drive, pause_of(interval)) {
         Ok(end) => end,
         Err(why) => PhaseEnd::Aux(why),
     }
 }
 
 /// The microseconds before each read: this project's own rule for an interval above 4.
-fn pause(interval: u8) -> u32
+fn pause_of(interval: u8) -> u32
     ensures { result ≡ pause_of interval }
 {
     if interval == 0 {
@@ -57,10 +60,10 @@ fn start<P: AuxPort>(
     drive: Drive,
     pause: u32,
 ) -> Result<PhaseEnd, AuxEnd>
-    requires { (P.state port.old).asked + 80 < 2 ^ 64 }
+    requires { CanAsk equalisation_asks (P.state port.old) }
     ensures runs { Converses (Runs (equalisation lanes drive.registers pause) pattern drive.registers)
         (P.state port.old) (P.state port.new) result }
-    ensures few { (P.state port.new).asked ≤ (P.state port.old).asked + 80 }
+    ensures few { AsksAtMost equalisation_asks (P.state port.old) (P.state port.new) }
     ensures end { IfOk result (EndsEqualisation lanes) }
 {
     write_start(port, lanes, pattern, drive)?;
@@ -74,16 +77,16 @@ fn adjust<P: AuxPort>(
     first: Drive,
     pause: u32,
 ) -> Result<PhaseEnd, AuxEnd>
-    requires { (P.state port.old).asked + 72 < 2 ^ 64 }
+    requires { CanAsk (asks_at_most * rounds_transactions equalisation_reads) (P.state port.old) }
     ensures follows { Converses (Follows (equalisation lanes first.registers pause))
         (P.state port.old) (P.state port.new) result }
-    ensures few { (P.state port.new).asked ≤ (P.state port.old).asked + 72 }
+    ensures few { AsksAtMost (asks_at_most * rounds_transactions equalisation_reads) (P.state port.old) (P.state port.new) }
     ensures end { IfOk result (EndsEqualisation lanes) }
 {
     let mut drive = first;
     for number in 1..READS + 1 {
         let status = read_later(port, pause)?;
-        match end_at(lanes, status, drive, number) {
+        match equalisation_end(lanes, status, drive, number) {
             Some(end) => return Ok(end),
             None => {}
         }
@@ -94,10 +97,10 @@ fn adjust<P: AuxPort>(
 }
 
 /// How equalisation ends at the status of this number, if it ends there.
-fn end_at(lanes: Lanes, status: Status6, drive: Drive, number: u8) -> Option<PhaseEnd>
-    requires { number ≤ 5 }
+fn equalisation_end(lanes: Lanes, status: Status6, drive: Drive, number: u8) -> Option<PhaseEnd>
+    requires { number ≤ equalisation_reads }
     ensures value { result ≡ equalisation_end lanes number drive.registers status }
-    ensures unended { IfNone result (number < 5) }
+    ensures unended { IfNone result (number < equalisation_reads) }
     ensures end { IfSome result (EndsEqualisation lanes) }
 {
     if !status.cr_done(lanes) {

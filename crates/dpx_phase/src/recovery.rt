@@ -1,10 +1,13 @@
-ghost use Rattle.std.specs.Prelude.{◌≡◌, ℕ, ◌+◌, ◌^◌, ◌<◌, ◌≤◌, nat_le, if◌then◌else◌, IfOk, IfSome, IfNone};
+ghost use Rattle.std.specs.Prelude.{◌≡◌, ℕ, ◌+◌, ◌*◌, ◌<◌, ◌≤◌, nat_le, if◌then◌else◌, IfOk, IfSome, IfNone};
+ghost use Rattle.dpx_base.specs.Asks.{CanAsk, AsksAtMost};
 ghost use Rattle.dpx_aux.specs.Conversation.{Converses};
+ghost use Rattle.dpx_aux.specs.Transaction.{asks_at_most};
 ghost use Rattle.dpx_dpcd.specs.declared.pattern.Pattern.TheVariants.{Tps1};
-ghost use Rattle.dpx_dpcd.specs.Status.{cr_done, level_of};
+ghost use Rattle.dpx_dpcd.specs.Status.{cr_done, status_level};
 ghost use Rattle.dpx_phase.specs.Drives.{no_drive, at_full_swing, same_swings};
-ghost use Rattle.dpx_phase.specs.Endings.{recovery_end};
-ghost use Rattle.dpx_phase.specs.Phases.{Runs, Follows, Recovery, recovery, EndsRecovery};
+ghost use Rattle.dpx_phase.specs.Endings.{recovery_reads, recovery_end};
+ghost use Rattle.dpx_phase.specs.Phase.{Runs, Follows, rounds_transactions};
+ghost use Rattle.dpx_phase.specs.Recovery.{Recovery, recovery, EndsRecovery, recovery_asks};
 
 use crate::steps::{read_later, write_drive, write_start};
 use crate::swings::{at_full_swing, same_swings};
@@ -33,11 +36,11 @@ struct Level {
 }
 
 /// Clock recovery: training pattern 1 with no drive, and then the drives that the sink asks for.
-#[tactic(auto, unfolding(crate::specs::Phases::Recovery))]
+#[tactic(auto, unfolding(crate::specs::Recovery::Recovery))]
 pub fn recover<P: AuxPort>(port: &mut P, link: Link) -> PhaseEnd
-    requires { (P.state port.old).asked + 160 < 2 ^ 64 }
+    requires { CanAsk recovery_asks (P.state port.old) }
     ensures phase { Converses (Recovery link) (P.state port.old) (P.state port.new) result }
-    ensures few { (P.state port.new).asked ≤ (P.state port.old).asked + 160 }
+    ensures few { AsksAtMost recovery_asks (P.state port.old) (P.state port.new) }
     ensures end { EndsRecovery link.lanes result }
 {
     match start(port, link.lanes) {
@@ -47,10 +50,10 @@ pub fn recover<P: AuxPort>(port: &mut P, link: Link) -> PhaseEnd
 }
 
 fn start<P: AuxPort>(port: &mut P, lanes: Lanes) -> Result<PhaseEnd, AuxEnd>
-    requires { (P.state port.old).asked + 160 < 2 ^ 64 }
+    requires { CanAsk recovery_asks (P.state port.old) }
     ensures runs { Converses (Runs (recovery lanes) Tps1 no_drive)
         (P.state port.old) (P.state port.new) result }
-    ensures few { (P.state port.new).asked ≤ (P.state port.old).asked + 160 }
+    ensures few { AsksAtMost recovery_asks (P.state port.old) (P.state port.new) }
     ensures end { IfOk result (EndsRecovery lanes) }
 {
     write_start(port, lanes, Pattern::Tps1, NO_DRIVE)?;
@@ -59,9 +62,9 @@ fn start<P: AuxPort>(port: &mut P, lanes: Lanes) -> Result<PhaseEnd, AuxEnd>
 
 /// Reads statuses, and writes the drives that they ask for, until one ends the phase.
 fn adjust<P: AuxPort>(port: &mut P, lanes: Lanes) -> Result<PhaseEnd, AuxEnd>
-    requires { (P.state port.old).asked + 152 < 2 ^ 64 }
+    requires { CanAsk (asks_at_most * rounds_transactions recovery_reads) (P.state port.old) }
     ensures follows { Converses (Follows (recovery lanes)) (P.state port.old) (P.state port.new) result }
-    ensures few { (P.state port.new).asked ≤ (P.state port.old).asked + 152 }
+    ensures few { AsksAtMost (asks_at_most * rounds_transactions recovery_reads) (P.state port.old) (P.state port.new) }
     ensures end { IfOk result (EndsRecovery lanes) }
 {
     let mut level = Level {
@@ -70,7 +73,7 @@ fn adjust<P: AuxPort>(port: &mut P, lanes: Lanes) -> Result<PhaseEnd, AuxEnd>
     };
     for number in 1..READS + 1 {
         let status = read_later(port, PAUSE)?;
-        match end_at(lanes, status, level, number) {
+        match recovery_end(lanes, status, level, number) {
             Some(end) => return Ok(end),
             None => {}
         }
@@ -81,10 +84,10 @@ fn adjust<P: AuxPort>(port: &mut P, lanes: Lanes) -> Result<PhaseEnd, AuxEnd>
 }
 
 /// How recovery ends at the status of this number, if it ends there.
-fn end_at(lanes: Lanes, status: Status6, level: Level, number: u8) -> Option<PhaseEnd>
-    requires { number ≤ 10 }
+fn recovery_end(lanes: Lanes, status: Status6, level: Level, number: u8) -> Option<PhaseEnd>
+    requires { number ≤ recovery_reads }
     ensures value { result ≡ recovery_end lanes (nat_le 5 level.alike) number level.drive.registers status }
-    ensures unended { IfNone result (number < 10) }
+    ensures unended { IfNone result (number < recovery_reads) }
     ensures end { IfSome result (EndsRecovery lanes) }
 {
     if status.cr_done(lanes) {
@@ -115,8 +118,8 @@ fn end_at(lanes: Lanes, status: Status6, level: Level, number: u8) -> Option<Pha
 /// The drive that the status asks for, and whether it goes on with the same swings.
 fn next(lanes: Lanes, status: Status6, level: Level) -> Level
     requires { level.alike < 255 }
-    ensures drive { result.drive.registers ≡ level_of lanes status.bytes }
-    ensures alike { result.alike ≡ (if same_swings lanes level.drive.registers (level_of lanes status.bytes)
+    ensures drive { result.drive.registers ≡ status_level lanes status.bytes }
+    ensures alike { result.alike ≡ (if same_swings lanes level.drive.registers (status_level lanes status.bytes)
         then level.alike + 1
         else 1) }
 {

@@ -10,9 +10,9 @@ use Rattle.dpx_sinkmodel.specs.declared.loaded.Loaded.{Loaded}
 use Rattle.dpx_sinkmodel.specs.declared.loaded.Loaded.TheVariants.{Script, Model}
 
 -- the plan that was loaded
-abbrev pub plan_of : Loaded → SinkPlan
-plan_of (Script answers next) = plan.Script answers
-plan_of (Model file defers requests) =
+abbrev pub plan_loaded : Loaded → SinkPlan
+plan_loaded (Script answers next) = plan.Script answers
+plan_loaded (Model file defers requests) =
     plan.Model (facts_of file).caps (facts_of file).extended defers (facts_of file).channel
 
 -- a modelled sink between two asks

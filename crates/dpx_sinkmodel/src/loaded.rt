@@ -1,8 +1,8 @@
 ghost use Rattle.std.specs.Prelude.{◌≡◌, ℕ, ◌+◌, ◌-◌, ◌^◌, ◌<◌, ◌≤◌, List, ◌∷◌, [], length, drop};
 ghost use Rattle.dpx_dpcd.specs.RegFile.{facts_of, registers_of};
-ghost use Rattle.dpx_dpcd.specs.SinkPlan.{planned, script_answers, sink_answer, sink_after};
-ghost use Rattle.dpx_aux.specs.Request.{request_from};
-ghost use Rattle.dpx_sinkmodel.specs.Loaded.{plan_of, sink_state, answers_next, requests_so_far};
+ghost use Rattle.dpx_dpcd.specs.SinkPlan.{planned, script_answers, sink_answer, after_request};
+ghost use Rattle.dpx_aux.specs.Request.{read_request};
+ghost use Rattle.dpx_sinkmodel.specs.Loaded.{plan_loaded, sink_state, answers_next, requests_so_far};
 
 use dpx_aux::{Reply, read_request};
 use dpx_base::{Answer, Bytes20};
@@ -24,7 +24,7 @@ pub(crate) enum Loaded {
 
 impl Loaded {
     pub(crate) fn new(plan: SinkPlan) -> Loaded
-        ensures plan { plan_of result ≡ plan }
+        ensures plan { plan_loaded result ≡ plan }
         ensures answers { (later : List (List ℕ)) → answers_next result later ≡ planned plan later }
         ensures requests { requests_so_far result ≡ 0 }
     {
@@ -48,7 +48,7 @@ impl Loaded {
         requires { requests_so_far self.old < 2 ^ 64 - 1 }
         ensures answers { (later : List (List ℕ)) →
             answers_next self.old (bytes.now ∷ later) ≡ result ∷ answers_next self.new later }
-        ensures plan { plan_of self.new ≡ plan_of self.old }
+        ensures plan { plan_loaded self.new ≡ plan_loaded self.old }
         ensures requests { requests_so_far self.new ≤ requests_so_far self.old + 1 }
     {
         match self {
@@ -75,14 +75,14 @@ fn next_of_script(answers: &AnswerList, next: &mut usize) -> Answer
     copy(answer)
 }
 
-#[tactic(auto, unfolding(dpx_dpcd::specs::SinkPlan::sink_answer, dpx_dpcd::specs::SinkPlan::sink_after))]
+#[tactic(auto, unfolding(dpx_dpcd::specs::SinkPlan::sink_answer, dpx_dpcd::specs::SinkPlan::after_request))]
 fn answer_of_sink(file: &mut RegFile, defers: u8, requests: &mut u64, bytes: &[u8]) -> Answer
     requires { requests.old < 2 ^ 64 - 1 }
     ensures answer { let before = sink_state file.old requests.old in
-        result ≡ sink_answer (facts_of file.old) defers before (request_from bytes.now) }
-    ensures requests { let after = sink_after defers (sink_state file.old requests.old) (request_from bytes.now) in
+        result ≡ sink_answer (facts_of file.old) defers before (read_request bytes.now) }
+    ensures requests { let after = after_request defers (sink_state file.old requests.old) (read_request bytes.now) in
         requests.new ≡ after.requests }
-    ensures registers { let after = sink_after defers (sink_state file.old requests.old) (request_from bytes.now) in
+    ensures registers { let after = after_request defers (sink_state file.old requests.old) (read_request bytes.now) in
         (address : ℕ) → registers_of file.new address ≡ after.registers address }
     ensures few { requests.new ≤ requests.old + 1 }
     ensures facts { facts_of file.new ≡ facts_of file.old }

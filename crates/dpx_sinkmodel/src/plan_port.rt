@@ -1,10 +1,10 @@
-ghost use Rattle.std.specs.Prelude.{◌≡◌, ℕ, ◌+◌, ◌-◌, ◌^◌, ◌<◌, ◌≤◌, List, [], ◌∷◌, length, vec_capacity, nat_lt};
+ghost use Rattle.std.specs.Prelude.{◌≡◌, ℕ, ◌+◌, ◌-◌, ◌^◌, ◌<◌, ◌≤◌, List, [], ◌∷◌, length, min, vec_capacity, nat_lt};
 ghost use Rattle.std.specs.Prelude.{◌&&◌, IfOk, IfSome, Some};
 ghost use Rattle.dpx_base.specs.declared.aux_port.Entry.{Entry};
 ghost use Rattle.dpx_base.specs.Port.{PortState, Added};
 ghost use Rattle.dpx_dpcd.specs.SinkPlan.{planned};
-ghost use Rattle.dpx_dpcd.specs.LoadPort.{IsLoaded};
-ghost use Rattle.dpx_sinkmodel.specs.Loaded.{plan_of, answers_next, answers_next-nil, requests_so_far};
+ghost use Rattle.dpx_dpcd.specs.LoadPort.{IsLoaded, BeginsAnew};
+ghost use Rattle.dpx_sinkmodel.specs.Loaded.{plan_loaded, answers_next, answers_next-nil, requests_so_far};
 ghost use Rattle.dpx_sinkmodel.specs.History.{entries_at_most, kept_with, told_with, PlaysPlan, as_planned_by};
 
 use crate::loaded::{Loaded, copy};
@@ -22,10 +22,12 @@ pub struct PlanPort {
     entries: Vec<Entry>,
     /// Whether all entries are kept.
     kept: bool,
+    /// How often it was asked since it was loaded, and before that; the second stays at the greatest u64.
     asked: u64,
+    asked_before: u64,
     ghost room: { entries_at_most ≤ vec_capacity entries },
     ghost few: { requests_so_far loaded ≤ asked },
-    ghost plays: { PlaysPlan (plan_of loaded) kept entries.items (answers_next loaded) },
+    ghost plays: { PlaysPlan (plan_loaded loaded) kept entries.items (answers_next loaded) },
 }
 
 impl PlanPort {
@@ -35,7 +37,13 @@ impl PlanPort {
     /// Takes its room at once, and starts with an empty script.
     pub fn new(alloc: Global) -> Result<PlanPort, Memory>
         ensures state { IfOk result (λ port.
-            state_of port ≡ record { asked = 0; history = Some []; plan = Some (SinkPlan.Script []) }) }
+            state_of port ≡ record {
+              asked = 0;
+              history = Some [];
+              plan = Some (SinkPlan.Script []);
+              room = entries_at_most;
+              asked_in_all = 0;
+            }) }
         ensures answers { IfOk result (λ port.
             (later : List (List ℕ)) → answers_to port later ≡ planned (SinkPlan.Script []) later) }
     {
@@ -46,6 +54,7 @@ impl PlanPort {
             entries,
             kept: true,
             asked: 0,
+            asked_before: 0,
         })
     }
 
@@ -103,19 +112,29 @@ impl AuxPort for PlanPort {
 impl LoadPort for PlanPort {
     ghost use Rattle.dpx_sinkmodel.specs.PlanPort.{state_of, answers_to};
 
+    ghost surely_told = { entries_at_most };
+
     fn load(&mut self, plan: SinkPlan)
         ensures loaded { IsLoaded plan (state_of self.new) }
-        ensures state { state_of self.new ≡ record { asked = 0; history = Some []; plan = Some plan } }
+        ensures anew { BeginsAnew entries_at_most (state_of self.old) (state_of self.new) }
+        ensures state { state_of self.new ≡ record {
+          asked = 0;
+          history = Some [];
+          plan = Some plan;
+          room = entries_at_most;
+          asked_in_all = min (state_of self.old).asked_in_all (2 ^ 64 - 1);
+        } }
         ensures answers { (later : List (List ℕ)) → answers_to self.new later ≡ planned plan later }
     {
         self.entries.clear();
         self.loaded = Loaded::new(plan);
         self.kept = true;
+        self.asked_before = self.asked_before.saturating_add(self.asked);
         self.asked = 0;
     }
 
     ghost as_planned = { λ port. let loaded = port.loaded in
-        as_planned_by (plan_of loaded) port.kept port.entries.items (answers_next loaded) port.plays (answers_next-nil loaded) };
+        as_planned_by (plan_loaded loaded) port.kept port.entries.items (answers_next loaded) port.plays (answers_next-nil loaded) };
 }
 
 /// Keeps the entry while there is room. Else not all entries are kept any more.

@@ -13,7 +13,10 @@ mod dpcd;
 mod files;
 mod lane;
 mod link;
+mod main_link;
+mod modes;
 mod phase;
+mod pipe;
 mod register_file;
 mod sinkmodel;
 

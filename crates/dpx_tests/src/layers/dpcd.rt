@@ -207,7 +207,7 @@ impl AuxPort for Replies<'_> {
 
     type Plan = ();
 
-    ghost state = { λ p. record { asked = p.asked; history = None; plan = None } };
+    ghost state = { λ p. record { asked = p.asked; history = None; plan = None; room = 0; asked_in_all = p.asked } };
 
     fn ask(&mut self, request: &[u8]) -> Answer {
         self.asked += 1;

@@ -13,4 +13,4 @@ pub returns-in-End-ask-clause-transaction : goal.returns-in-End-ask-clause-trans
 returns-in-End-ask-clause-transaction g c = ends_as c.loop.invariant c.in-End-ask.ensures (omega arith) refl
 
 pub returns-in-InVain-ask-clause-transaction : goal.returns-in-InVain-ask-clause-transaction
-returns-in-InVain-ask-clause-transaction g c = ends_as c.loop.invariant c.in-InVain-ask.ensures (omega arith) (omega arith, ap (λ address. Err (Spent address c.in-InVain-ask.last)) c.address.ensures)
+returns-in-InVain-ask-clause-transaction g c = ends_as c.loop.invariant c.in-InVain-ask.ensures (omega arith) (omega arith, ap (λ address. Err (Spent address c.in-InVain-ask.last)) c.address_of.ensures)

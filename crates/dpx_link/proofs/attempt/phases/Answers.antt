@@ -15,6 +15,6 @@ returns-in-Done-clause-phases g c =
         back = equalisation.entries;
         joined = refl;
         recovery = recovery.done;
-        goes_on = record { end = c.equalise.result; phase = rw c.pattern.ensures at equalisation.done; means = c.after_equalisation.ensures };
+        goes_on = record { end = c.equalise.result; phase = rw c.pattern.ensures at equalisation.done; means = c.equalised.ensures };
       };
     }

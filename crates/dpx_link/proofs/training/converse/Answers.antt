@@ -7,7 +7,7 @@ use Rattle.dpx_aux.proofs.Parts.{then_ok, ends}
 use Rattle.dpx_dpcd.specs.declared.caps.Caps.{Caps}
 use Rattle.dpx_dpcd.specs.declared.caps.CapsBad.{CapsBad}
 use Rattle.dpx_link.specs.declared.train_end.Verdict.{Verdict}
-use Rattle.dpx_link.specs.Training.{Trains, Capable}
+use Rattle.dpx_link.specs.Training.{TrainOutcome, Capable}
 use Rattle.dpx_link.proofs.training.converse.Goals as goal
 
 -- what was read of the block is what it says
@@ -15,12 +15,12 @@ read_as : {Plan : Type 0} (top : Link) {read says : Result Caps CapsBad} {before
 read_as top {before = before} {now = now} {given = given} e c = subst (λ caps. Converses (Capable top caps) before now given) e c
 
 pub returns-in-Ok-clause-trains : goal.returns-in-Ok-clause-trains
-unfolding Trains
+unfolding TrainOutcome
 returns-in-Ok-clause-trains g c =
     let trained = rw c.start.ensures at c.train_with.ensures.trains in
     then_ok c.in_ok-block.ensures.capabilities (read_as c.args.top c.in-Ok.ensures.value trained)
 
 pub returns-in-Err-clause-trains : goal.returns-in-Err-clause-trains
-unfolding Trains
+unfolding TrainOutcome
 returns-in-Err-clause-trains g c =
     then_ok c.in_ok-block.ensures.capabilities (read_as c.args.top c.in-Err.ensures.value (ends _ _))

@@ -1,4 +1,5 @@
-use Rattle.dpx_phase.specs.Phases.{Recovery, Equalisation}
+use Rattle.dpx_phase.specs.Equalisation.{Equalisation}
+use Rattle.dpx_phase.specs.Recovery.{Recovery}
 use Rattle.dpx_phase.proofs.Endings.{recovery_looks_back, equalisation_looks_back}
 use Rattle.dpx_phase.proofs.Decided.{takes_decided}
 use Rattle.dpx_phase.proofs.laws.is_decided.Goals as goal

@@ -1,4 +1,5 @@
-use Rattle.dpx_phase.specs.Phases.{Recovery, Equalisation, EndsRecovery, EndsEqualisation}
+use Rattle.dpx_phase.specs.Equalisation.{Equalisation, EndsEqualisation}
+use Rattle.dpx_phase.specs.Recovery.{Recovery, EndsRecovery}
 use Rattle.dpx_phase.proofs.Honest.{recovery_honest, equalisation_honest, takes_always}
 use Rattle.dpx_phase.proofs.laws.is_honest.Goals as goal
 
