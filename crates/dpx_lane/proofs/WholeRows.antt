@@ -5,9 +5,14 @@ use Rattle.std.proofs.Common.{refl, sym, ap, subst, ◌∙◌, arith, append_ass
 use Rattle.std.specs.Prelude.{slice_index_or}
 use Rattle.std.proofs.Math.Seq.{take-append_seam}
 use Rattle.std.proofs.lemmas.List.{length-replicate, replicate-append-replicate, map-append, length-map, ext_get_or}
+use Rattle.dpx_base.specs.Capture.{IsCapture, header_bytes, word_bytes, capture_clocks}
 use Rattle.dpx_base.specs.Code.{Coded}
 use Rattle.dpx_base.specs.Key.{Keyed}
+use Rattle.dpx_base.specs.Lanes.{lanes_count}
+use Rattle.dpx_base.specs.Plan.{PlanFacts}
+use Rattle.dpx_base.specs.Sets.{sets}
 use Rattle.dpx_base.specs.Words.{fill, column, words_of, lane_row, LaneWords, SentWords}
+use Rattle.dpx_base.specs.declared.pixel.Pixel.{Pixel}
 use Rattle.dpx_base.specs.declared.sym.Sym.{Sym}
 use Rattle.dpx_code.proofs.Lists.{coded_once}
 use Rattle.dpx_lane.specs.Codes.{symbol_of}
@@ -98,3 +103,11 @@ sent_once lanes sets one other h k =
     (λ j l.
     let i : j < lanes = omega (arith, l, h.size) in
     lane_words_once lanes j (column j sets) (words_of one j) (words_of other j) (h.each j i) (k.each j i))
+
+pub capture_once : (p : PlanFacts) (pixels : List Pixel) (one other : List ℕ)
+    → IsCapture p pixels one → IsCapture p pixels other → one ≡ other
+capture_once p pixels one other h k =
+    let lanes = lanes_count p.link.lanes in
+    let bytes : List (List ℕ) → List ℕ =
+    λ words. header_bytes p.link ++ word_bytes lanes (capture_clocks p) words in
+    h.bytes_are ∙ (ap bytes (sent_once lanes (sets p pixels) h.words k.words h.sent k.sent) ∙ sym k.bytes_are)

@@ -18,7 +18,7 @@ pub struct LaneRx {
 }
 
 impl LaneRx {
-    ghost use Rattle.dpx_lane.specs.Receiving.{HasRead, good_clocks};
+    ghost use Rattle.dpx_lane.specs.Receiving.{HasRead, IsReading, good_clocks};
 
     /// A lane that may start at either disparity.
     pub fn new() -> LaneRx
@@ -37,7 +37,7 @@ impl LaneRx {
     /// The first bad word of all rows, if there was one.
     pub fn fault(&self) -> Option<LaneFault>
         ensures first { (words left : List ℕ) → HasRead self.now words left → IsFault words result }
-        ensures same { result ≡ self.now.fault }
+        ensures reading { (words left : List ℕ) → HasRead self.now words left → IsReading words left result }
     {
         self.fault
     }

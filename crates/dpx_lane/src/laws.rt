@@ -1,11 +1,14 @@
 //! What the definitions of lanes obey, and what lanes that stand for whole lists say of them.
 
 ghost use Rattle.std.specs.Prelude.{◌≡◌, ◌<◌, ◌-◌, ◌*◌, ◌++◌, ℕ, List, map, replicate};
+ghost use Rattle.dpx_base.specs.Capture.{IsCapture};
 ghost use Rattle.dpx_base.specs.Key.{Keyed};
+ghost use Rattle.dpx_base.specs.Plan.{PlanFacts};
 ghost use Rattle.dpx_base.specs.Words.{fill, LaneWords, SentWords};
+ghost use Rattle.dpx_base.specs.declared.pixel.Pixel.{Pixel};
 ghost use Rattle.dpx_base.specs.declared.sym.Sym.{Sym};
 ghost use Rattle.dpx_lane.specs.Codes.{symbol_of};
-ghost use Rattle.dpx_lane.specs.Receiving.{HasRead, ReadsRow, IsReading};
+ghost use Rattle.dpx_lane.specs.Receiving.{ReadsRow};
 ghost use Rattle.dpx_lane.specs.Sending.{HasSent, SendsRow, IsSent};
 ghost use Rattle.dpx_lane.specs.Team.{LanesDo, TeamSent, TeamRead, joined};
 ghost use Rattle.dpx_lane.specs.declared.lane_rx.LaneRx.{LaneRx};
@@ -30,9 +33,10 @@ pub fn lanes_send_their_rows()
         → SentWords lanes sets one → SentWords lanes sets other → one ≡ other }
 {}
 
-/// What a lane on the way in took and left is a reading of its words.
-pub fn lanes_read_their_words()
-    ensures { (lane : LaneRx) (words left : List ℕ) → HasRead lane words left → IsReading words left lane.fault }
+/// A plan's frames have one capture.
+pub fn a_capture_is_one()
+    ensures { (p : PlanFacts) (pixels : List Pixel) (one other : List ℕ)
+        → IsCapture p pixels one → IsCapture p pixels other → one ≡ other }
 {}
 
 /// A team's run leads from lanes that stand for lists to lanes that stand for the longer lists.
