@@ -74,7 +74,8 @@ impl LineBuffer {
             → 0 < length (lane_of self.old.lanes lane).waiting }
         ensures plan { self.new.plan ≡ self.old.plan }
         ensures bytes { (pixels : List Pixel) (taken : ℕ) → Holds pixels taken self.old
-            → result ≡ span (λ lane. lane_byte self.old.plan pixels lane taken) 0 (lanes_count self.old.plan.link.lanes) }
+            → result
+            ≡ span (λ lane. lane_byte self.old.plan pixels lane taken) 0 (lanes_count self.old.plan.link.lanes) }
         ensures holds { (pixels : List Pixel) (taken : ℕ) → Holds pixels taken self.old
             → Holds pixels (taken + 1) self.new }
     {

@@ -28,6 +28,16 @@ fn absorbs(rt: &impl Abort, buffer: &mut LineBuffer, pixel: Pixel)
     buffer.absorb(&arrivals);
 }
 
+fn absorbs_a_black_group(rt: &impl Abort, buffer: &mut LineBuffer)
+    requires { bits_of buffer.old.plan.mode.depth ≡ 10 }
+    ensures { buffer.new.plan ≡ buffer.old.plan }
+{
+    absorbs(rt, buffer, BLACK);
+    absorbs(rt, buffer, BLACK);
+    absorbs(rt, buffer, BLACK);
+    absorbs(rt, buffer, BLACK);
+}
+
 /// The next byte of each lane.
 fn hands_over(rt: &impl Abort, buffer: &mut LineBuffer, wanted: [u8; 4])
     ensures { buffer.new.plan ≡ buffer.old.plan }
@@ -55,9 +65,10 @@ fn last_group_and_byte_of_a_line_are_filled_up(rt: HostRuntime) {
         Depth::Ten => {}
         _ => return,
     }
-    for _ in 0..16 {
-        absorbs(&rt, &mut buffer, BLACK);
-    }
+    absorbs_a_black_group(&rt, &mut buffer);
+    absorbs_a_black_group(&rt, &mut buffer);
+    absorbs_a_black_group(&rt, &mut buffer);
+    absorbs_a_black_group(&rt, &mut buffer);
     assert_eq!(rt; buffer.waiting(), 15);
     absorbs(&rt, &mut buffer, LAST);
     assert_eq!(rt; buffer.waiting(), 19);
