@@ -21,7 +21,8 @@ pub fn pack_line(
 ) -> Result<LineBytes, Memory>
     requires width { (1 ≤ length pixels.now) × (length pixels.now ≤ 8192) }
     requires range { All (InRange (depth_bits depth)) pixels.now }
-    ensures bytes { IfOk result (λ line. line ≡ packed_lanes (line_of pixels.now (lanes_count lanes) (depth_bits depth))) }
+    ensures bytes { IfOk result (λ line.
+        line ≡ packed_lanes (line_of pixels.now (lanes_count lanes) (depth_bits depth))) }
     ensures lengths { IfOk result (λ line.
         All (λ bytes. length bytes ≡ symbols_of (length pixels.now) (length line) (3 * depth_bits depth)) line) }
 {

@@ -178,13 +178,13 @@ fn components_in_range_are_below_two_to_the_depth(rt: HostRuntime) {
 
 #[test]
 fn lane_is_packed_pixel_by_pixel(rt: HostRuntime) {
+    let first = pixel(1, 2, 3);
+    let second = pixel(0xabc, 0xdef, 0x123);
+    assert!(rt; is_in_range(&first, Depth::Twelve) && is_in_range(&second, Depth::Twelve));
     let mut packer = Packer::<12>::new();
-    assert_eq!(rt;
-        packer.push(pixel(1, 2, 3)).as_slice(),
-        [0x00, 0x10, 0x02, 0x00].as_slice()
-    );
+    assert_eq!(rt; packer.push(first).as_slice(), [0x00, 0x10, 0x02, 0x00].as_slice());
     assert_eq!(rt; packer.finish_line().as_slice(), [0x30].as_slice());
-    let bytes = packer.pack(pixel(0xabc, 0xdef, 0x123));
+    let bytes = packer.pack(second);
     assert_eq!(rt; bytes.len(), 4);
     assert_eq!(rt; (bytes.get(0), bytes.get(3)), (0xab, 0x12));
 }
