@@ -16,5 +16,5 @@ pub columns_back : ColumnsComeBack
 unfolding columns_from
 columns_back lanes bytes size =
     sym (fill_by_all (λ place. get_or bytes (column_symbol lanes (lane_of_place lanes place)
-      (index_of_place lanes place)) 0) bytes 36 0 size
+    (index_of_place lanes place)) 0) bytes 36 0 size
     (λ place h. ap (λ k. get_or bytes k 0) (sym (place_back lanes place h))))

@@ -48,10 +48,10 @@ left_and_next c bytes byte old pos is =
     let n : ℕ = 8 * length bytes in
     let s : ℕ = 3 * c * whole_pixel_count c (length bytes) in
     let few : 3 * c * whole_pixel_count c (length bytes) ≤ 8 * length bytes =
-      quotient_below (8 * length bytes) (3 * c) in
+    quotient_below (8 * length bytes) (3 * c) in
     let front : span (bit_in bytes) s (n - s) ≡ span f s (n - s) =
     span-same (bit_in bytes) f s s (n - s) (λ k h. sym (bit_stays bytes (byte ∷ []) (s + k) (omega (arith, h, few))))
-      in
+    in
     let next : low_bits 8 byte ≡ span f (s + (n - s)) 8 =
     bits_are 8 byte
     ∙ span-same (λ i. bit_at byte (8 - 1 - i)) f 0 (s + (n - s)) 8 (λ k h.
@@ -119,7 +119,7 @@ components_there : (c : ℕ) (f : ℕ → ℕ) (start : ℕ) (p : Pixel) → bit
 components_there c f start p e =
     let three : 3 * c ≡ c + c + c = omega arith in
     let last : (low_bits c p.r ++ low_bits c p.g) ++ low_bits c p.b
-      ≡ span f start (c + c) ++ span f (start + (c + c)) c =
+    ≡ span f start (c + c) ++ span f (start + (c + c)) c =
     e ∙ (ap (λ k. span f start k) three ∙ span-append f start (c + c) c) in
     let two : length (low_bits c p.r ++ low_bits c p.g) ≡ length (span f start (c + c)) =
     omega (
@@ -130,7 +130,7 @@ components_there c f start p e =
       length-span f start (c + c),
     ) in
     let parts = split_alike (low_bits c p.r ++ low_bits c p.g) (span f start (c + c)) (low_bits c p.b)
-      (span f (start + (c + c)) c) two last in
+    (span f (start + (c + c)) c) two last in
     let halves = split_alike (low_bits c p.r) (span f start c) (low_bits c p.g) (span f (start + c) c)
     (length-low_bits c p.r ∙ sym (length-span f start c)) (parts.0 ∙ span-append f start c c) in
     record {
@@ -144,10 +144,10 @@ same_pixel : (c : ℕ) (byte : ℕ → ℕ) (k start : ℕ) (p : Pixel) → star
 same_pixel c byte k start p at small there =
     let r : p.r ≡ carried_component c byte k 0 =
     component_from c (carried_bit byte) start p.r there.r small.r
-      ∙ component_is c byte k 0 start (omega (arith, at)) in
+    ∙ component_is c byte k 0 start (omega (arith, at)) in
     let g : p.g ≡ carried_component c byte k 1 =
     component_from c (carried_bit byte) (start + c) p.g there.g small.g
-      ∙ component_is c byte k 1 (start + c) (omega (arith, at)) in
+    ∙ component_is c byte k 1 (start + c) (omega (arith, at)) in
     let b : p.b ≡ carried_component c byte k 2 =
     component_from c (carried_bit byte) (start + c + c) p.b there.b small.b
     ∙ component_is c byte k 2 (start + c + c) (omega (arith, at)) in
@@ -169,7 +169,7 @@ completes c bytes byte old new p some is many short small e =
     let taken : length (bytes ++ byte ∷ []) ≡ length bytes + 1 = length-append bytes (byte ∷ []) in
     let parts : 8 * (length bytes + 1) - 3 * c * w ≡ 3 * c + (length old + 8 - 3 * c) = omega (arith, sum, many) in
     let split : bits_of_pixel c p ++ new ≡ span f (3 * c * w) (3 * c)
-      ++ span f (3 * c * w + 3 * c) (length old + 8 - 3 * c) =
+    ++ span f (3 * c * w + 3 * c) (length old + 8 - 3 * c) =
     sym e ∙ (left_and_next c bytes byte old pos is
     ∙ (ap (λ k. span f (3 * c * w) k) parts ∙ span-append f (3 * c * w) (3 * c) (length old + 8 - 3 * c))) in
     let size : length (bits_of_pixel c p) ≡ length (span f (3 * c * w) (3 * c)) =
@@ -183,16 +183,16 @@ completes c bytes byte old new p some is many short small e =
       length-span f (3 * c * w) (3 * c),
     ) in
     let both = split_alike (bits_of_pixel c p) (span f (3 * c * w) (3 * c)) new
-      (span f (3 * c * w + 3 * c) (length old + 8 - 3 * c)) size split in
+    (span f (3 * c * w + 3 * c) (length old + 8 - 3 * c)) size split in
     let pixel : p ≡ carried_pixel c (λ j. get_or (bytes ++ byte ∷ []) j 0) w =
     same_pixel c (λ j. get_or (bytes ++ byte ∷ []) j 0) w (3 * c * w) p refl small
-      (components_there c f (3 * c * w) p both.0) in
+    (components_there c f (3 * c * w) p both.0) in
     let test : nat_lt w (w + 1) ≡ true = lt-ltb w (w + 1) (omega arith) in
     let start : 3 * c * (w + 1) ≡ 3 * c * w + 3 * c = omega arith in
     let rest : 8 * (length bytes + 1) - 3 * c * (w + 1) ≡ length old + 8 - 3 * c = omega (arith, sum, many) in (
       ap Some pixel
           ∙ sym (ap (λ k. if nat_lt w k then Some
-            (carried_pixel c (λ j. get_or (bytes ++ byte ∷ []) j 0) w) else None) next
+          (carried_pixel c (λ j. get_or (bytes ++ byte ∷ []) j 0) w) else None) next
           ∙ ap (λ b. if b then Some (carried_pixel c (λ j. get_or (bytes ++ byte ∷ []) j 0) w) else None) test),
       both.1
           ∙ (ap (λ s. span f s (length old + 8 - 3 * c)) (sym start)

@@ -25,7 +25,7 @@ bit_stands line lane k place i three here within =
     let room : suc place * line.depth ≤ 3 * line.depth = mul-le-mul_right line.depth three in
     let in_pixel : place * line.depth + i < 3 * line.depth = omega (arith, room, here) in
     let joined : k * (3 * line.depth) + place * line.depth + i ≡ k * (3 * line.depth) + (place * line.depth + i) =
-      omega arith in
+    omega arith in
     let flat : k * (3 * line.depth) + (place * line.depth + i) ≡ (k * 3 + place) * line.depth + i = omega arith in
     let q : (k * (3 * line.depth) + (place * line.depth + i)) / (3 * line.depth) ≡ k =
     div-mul-add k (3 * line.depth) (place * line.depth + i) in_pixel in
@@ -57,7 +57,7 @@ component_back line byte lane k place carries is three lane_there within =
     let v : ℕ = component (line.pixel (lane + line.lanes * k)) place in
     let from : ℕ = k * (3 * line.depth) + place * line.depth in
     let small : v < 2 ^ c = component_fits c (line.pixel (lane + line.lanes * k)) place
-      (is.in_range (lane + line.lanes * k) within) in
+    (is.in_range (lane + line.lanes * k) within) in
     ap number_of
     (span-same (carried_bit (byte lane)) (λ i. bit_at v (c - 1 - i)) from 0 c (λ i h.
     let pixel : (from + i) / (3 * c) ≡ k = pixel_of_bit c k place i three h in
@@ -77,14 +77,14 @@ pub pixels_back : (line : Line) (byte : ℕ → ℕ → ℕ) → IsLine line →
 unfolding unpacked span
 pixels_back line byte is carries =
     span-same (λ x. carried_pixel line.depth (byte (x % line.lanes)) (x / line.lanes)) line.pixel 0 0 line.width
-      (λ x h.
+    (λ x h.
     let lane : ℕ = (0 + x) % line.lanes in
     let k : ℕ = (0 + x) / line.lanes in
     let there : lane < line.lanes = mod-lt (0 + x) is.lanes in
     let at : lane + line.lanes * k ≡ 0 + x = omega (arith, div-add-mod' (0 + x) line.lanes) in
     let within : lane + line.lanes * k < line.width = omega (arith, at, h) in
     all_components line.depth k (byte lane) (line.pixel (lane + line.lanes * k))
-      (λ place three. component_back line byte lane k place carries is three there within) ∙ ap line.pixel at)
+    (λ place three. component_back line byte lane k place carries is three there within) ∙ ap line.pixel at)
 
 pub ceil_covers : (a d : ℕ) → 0 < d → a ≤ d * ceil_div a d
 unfolding ceil_div
@@ -116,7 +116,7 @@ unfolding line_bit
 line_bit_small line lane i =
     small (nat_lt (lane + line.lanes * (i / (3 * line.depth))) line.width)
     (component (line.pixel (lane + line.lanes * (i / (3 * line.depth)))) (i % (3 * line.depth) / line.depth))
-      (line.depth - 1 - i % line.depth)
+    (line.depth - 1 - i % line.depth)
   where
     small : (b : Bool) (v k : ℕ) → (if b then bit_at v k else 0) < 2
     small true v k = bit_small v k

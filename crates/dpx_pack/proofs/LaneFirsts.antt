@@ -42,7 +42,7 @@ lane_firsts pixels lane count k = span (λ group. get_or pixels (lane + count * 
 
 pub one_more : (pixels : List Pixel) (lane count k : ℕ)
     → lane_firsts pixels lane count (k + 1) ≡ lane_firsts pixels lane count k
-      ++ get_or pixels (lane + count * k) black ∷ []
+    ++ get_or pixels (lane + count * k) black ∷ []
 one_more pixels lane count k =
     let at : 0 + k ≡ k = omega arith in
     span-more (λ group. get_or pixels (lane + count * group) black) 0 k
@@ -78,7 +78,7 @@ bits_agree pixels lane count c k i pos h =
     length-span (λ group. get_or pixels (lane + count * group) black) 0 k in
     let at : 0 + i / (3 * c) ≡ i / (3 * c) = omega arith in
     let pixel : get_or (lane_firsts pixels lane count k) (i / (3 * c)) black
-      ≡ get_or pixels (lane + count * (i / (3 * c))) black =
+    ≡ get_or pixels (lane + count * (i / (3 * c))) black =
     get_or-span (λ group. get_or pixels (lane + count * group) black) 0 k (i / (3 * c)) black here
     ∙ ap (λ group. get_or pixels (lane + count * group) black) at in
     bit_there c (lane_firsts pixels lane count k) i (omega (arith, here, size))
@@ -101,12 +101,12 @@ zeros_agree pixels lane count c k i pos all h =
 
 byte_from_bits : (pixels : List Pixel) (lane count c k j : ℕ)
     → ((i : ℕ) → i < 8 → lane_bit c (lane_firsts pixels lane count k) (8 * j + i)
-      ≡ line_bit (line_of pixels count c) lane (8 * j + i))
+    ≡ line_bit (line_of pixels count c) lane (8 * j + i))
     → line_byte (lane_line c (lane_firsts pixels lane count k)) 0 j ≡ line_byte (line_of pixels count c) lane j
 unfolding line_byte span
 byte_from_bits pixels lane count c k j h =
     ap number_of (span-same (lane_bit c (lane_firsts pixels lane count k)) (line_bit (line_of pixels count c) lane)
-      (8 * j) (8 * j) 8 h)
+    (8 * j) (8 * j) 8 h)
 
 -- the bytes that a lane's next pixel makes whole are the line's next
 pub next_bytes : (pixels : List Pixel) (lane count c k : ℕ) (bytes whole : List ℕ) → 1 ≤ c
@@ -123,7 +123,7 @@ next_bytes pixels lane count c k bytes whole pos before now =
     let next : whole ≡ span (line_byte (lane_line c (lane_firsts pixels lane count (k + 1))) 0) w d =
     now
     ∙ (ap (λ xs. bytes_from c (lane_firsts pixels lane count k) xs
-      (whole_byte_count c (length (lane_firsts pixels lane count k) + 1)))
+    (whole_byte_count c (length (lane_firsts pixels lane count k) + 1)))
     (sym (one_more pixels lane count k))
     ∙ ap (λ n. span (line_byte (lane_line c (lane_firsts pixels lane count (k + 1))) 0) (whole_byte_count c n)
     (whole_byte_count c (n + 1) - whole_byte_count c n)) size) in
@@ -157,7 +157,7 @@ all_bytes pixels lane count c bytes last pos some before now =
     let w : ℕ = whole_byte_count c k in
     let s : ℕ = symbols_of (length pixels) count (3 * c) in
     let size : length (lane_firsts pixels lane count (ceil_div (length pixels) count))
-      ≡ ceil_div (length pixels) count =
+    ≡ ceil_div (length pixels) count =
     length-span (λ group. get_or pixels (lane + count * group) black) 0 (ceil_div (length pixels) count) in
     let covers : length pixels ≤ count * ceil_div (length pixels) count = ceil_covers (length pixels) count some in
     let rest : last ≡ span (line_byte (lane_line c (lane_firsts pixels lane count k)) 0) w (s - w) =
@@ -176,7 +176,7 @@ all_bytes pixels lane count c bytes last pos some before now =
   where
     either : length pixels ≤ count * ceil_div (length pixels) count → (i : ℕ)
         → lane_bit c (lane_firsts pixels lane count (ceil_div (length pixels) count)) i
-          ≡ line_bit (line_of pixels count c) lane i
+        ≡ line_bit (line_of pixels count c) lane i
     either covers i = elim (cases_lt i (ceil_div (length pixels) count * (3 * c))) [
       | inl inside ↦ bits_agree pixels lane count c (ceil_div (length pixels) count) i pos inside
       | inr past ↦ zeros_agree pixels lane count c (ceil_div (length pixels) count) i pos covers past

@@ -25,7 +25,7 @@ low_bits-join n (suc m) x y h =
     let v : x * 2 ^ suc m + y ≡ (x * 2 ^ m) * 2 + y = ap (λ (z : ℕ). z + y) p in
     let small : y / 2 < 2 ^ m = omega (arith, pow-suc 2 m) in
     let ih : low_bits (n + m) (x * 2 ^ m + y / 2) ≡ low_bits n x ++ low_bits m (y / 2) =
-      low_bits-join n m x (y / 2) small in
+    low_bits-join n m x (y / 2) small in
     rw (add-suc, v, half_of, low_of, ih) (append_assoc (low_bits n x) (low_bits m (y / 2)) ((y % 2) ∷ []))
 
 pub room_for : (v l m w : ℕ) → v < 2 ^ l → m < 2 ^ w → v * 2 ^ w + m < 2 ^ (l + w)
@@ -49,8 +49,11 @@ low_bits-split n m v =
 pub length-low_bits : (n v : ℕ) → length (low_bits n v) ≡ n
 unfolding low_bits
 length-low_bits zero v = refl
-length-low_bits (suc n) v = omega (arith, length-append (low_bits n (v / 2)) ((v % 2) ∷ []),
-    length-low_bits n (v / 2))
+length-low_bits (suc n) v = omega (
+  arith,
+  length-append (low_bits n (v / 2)) ((v % 2) ∷ []),
+  length-low_bits n (v / 2),
+)
 
 pub bits_of_bytes-append : (xs ys : List ℕ) → bits_of_bytes (xs ++ ys) ≡ bits_of_bytes xs ++ bits_of_bytes ys
 unfolding bits_of_bytes
@@ -105,7 +108,7 @@ padded_bits v l h k =
     rw (padded_is v l h k)
     (ap (λ (m : ℕ). low_bits m (v * 2 ^ (8 - l))) n ∙ (ap (low_bits (l + (8 - l))) z
     ∙ (low_bits-join l (8 - l) v 0 (pow_pos (8 - l))
-      ∙ ap (λ (t : List ℕ). low_bits l v ++ t) (low_bits-zeros (8 - l)))))
+    ∙ ap (λ (t : List ℕ). low_bits l v ++ t) (low_bits-zeros (8 - l)))))
 
 pub one_byte : (x : ℕ) → bits_of_bytes (x ∷ []) ≡ low_bits 8 x
 unfolding bits_of_bytes
@@ -124,5 +127,9 @@ padding_is (bit ∷ bits) h =
 pub length-bits_of_bytes : (xs : List ℕ) → length (bits_of_bytes xs) ≡ 8 * length xs
 unfolding bits_of_bytes
 length-bits_of_bytes [] = refl
-length-bits_of_bytes (x ∷ xs) = omega (arith, length-append (low_bits 8 x) (bits_of_bytes xs), length-low_bits 8 x,
-    length-bits_of_bytes xs)
+length-bits_of_bytes (x ∷ xs) = omega (
+  arith,
+  length-append (low_bits 8 x) (bits_of_bytes xs),
+  length-low_bits 8 x,
+  length-bits_of_bytes xs,
+)

@@ -38,13 +38,13 @@ bits_of_low_bytes (suc n) v =
 -- the whole bytes of bits, and the bits behind them
 pub bytes_and_rest : (count v : ℕ)
     → low_bits count v ≡ bits_of_bytes (low_bytes (count / 8) (v / 2 ^ (count % 8)))
-      ++ low_bits (count % 8) (v % 2 ^ (count % 8))
+    ++ low_bits (count % 8) (v % 2 ^ (count % 8))
 bytes_and_rest count v =
     let parts : count ≡ 8 * (count / 8) + count % 8 = omega arith in
     ap (λ (n : ℕ). low_bits n v) parts
     ∙ (low_bits-split (8 * (count / 8)) (count % 8) v
     ∙ ap (λ (bits : List ℕ). bits ++ low_bits (count % 8) (v % 2 ^ (count % 8)))
-      (bits_of_low_bytes (count / 8) (v / 2 ^ (count % 8))))
+    (bits_of_low_bytes (count / 8) (v / 2 ^ (count % 8))))
 
 pub low_byte_at : (n v k d : ℕ) → k < n → get_or (low_bytes n v) k d ≡ v / 2 ^ (8 * (n - 1 - k)) % 256
 unfolding low_bytes
@@ -53,7 +53,7 @@ low_byte_at (suc n) v k d h = elim (cases_lt k n) [
   | inl earlier ↦
       let shift : 8 * (suc n - 1 - k) ≡ 8 + 8 * (n - 1 - k) = omega (arith, earlier) in
       get_or_append_left (low_bytes n (v / 256)) ((v % 256) ∷ []) d k
-        (omega (arith, length-low_bytes n (v / 256), earlier))
+      (omega (arith, length-low_bytes n (v / 256), earlier))
       ∙ (low_byte_at n (v / 256) k d earlier
       ∙ ap (λ (x : ℕ). x % 256) (shr-shr v 8 (8 * (n - 1 - k)) ∙ ap (λ (j : ℕ). v / 2 ^ j) (sym shift)))
   | inr last ↦

@@ -23,7 +23,7 @@ shift bits place start zero = let e : place + 0 ≡ place = omega arith in rw e 
 shift bits place start (suc n) =
     let e : place + 1 + n ≡ place + suc n = omega arith in
     ap (λ z. 2 * z + bits (place + 1 + n)) (shift bits place start n)
-      ∙ ap (λ z. 2 * number_at bits place start (suc n) + bits z) e
+    ∙ ap (λ z. 2 * number_at bits place start (suc n) + bits z) e
 
 number_is : (bits : ℕ → ℕ) (place start n : ℕ) → number_from bits place start n ≡ number_at bits place start n
 unfolding number_at number_from

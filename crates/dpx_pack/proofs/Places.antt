@@ -33,12 +33,12 @@ bits_are zero v = sym (span-none (λ i. bit_at v (0 - 1 - i)) 0)
 bits_are (suc n) v =
     let half : low_bits n (v / 2) ≡ span (λ i. bit_at v (suc n - 1 - i)) 0 n =
     bits_are n (v / 2) ∙ span-same (λ i. bit_at (v / 2) (n - 1 - i)) (λ i. bit_at v (suc n - 1 - i)) 0 0 n
-      (λ k h. same k h) in
+    (λ k h. same k h) in
     let low : v % 2 ≡ bit_at v (suc n - 1 - (0 + n)) = rw none_left (sym (bit_at_lowest v)) in
     ap (λ xs. xs ++ v % 2 ∷ []) half
     ∙ (ap (λ x. span (λ i. bit_at v (suc n - 1 - i)) 0 n ++ x ∷ []) low
     ∙ (sym (span-more (λ i. bit_at v (suc n - 1 - i)) 0 n)
-      ∙ ap (λ k. span (λ i. bit_at v (suc n - 1 - i)) 0 k) (add-one n)))
+    ∙ ap (λ k. span (λ i. bit_at v (suc n - 1 - i)) 0 k) (add-one n)))
   where
     none_left : suc n - 1 - (0 + n) ≡ 0
     none_left = omega arith
@@ -65,7 +65,7 @@ component_bits c p i v from pos is at =
     bits_are c v ∙ span-same (λ i. bit_at v (c - 1 - i)) (pixel_bit c p) 0 from c (λ k h. same k h)
   where
     same : (k : ℕ) → k < c → bit_at v (c - 1 - (0 + k))
-      ≡ bit_at (component p ((from + k) / c)) (c - 1 - (from + k) % c)
+        ≡ bit_at (component p ((from + k) / c)) (c - 1 - (from + k) % c)
     same k h =
         let e : 0 + k ≡ k = omega arith in
         rw (at, div-mul-add i c k h, mod-mul-add i c k h, ← is, e) refl
@@ -76,11 +76,11 @@ bits_of_pixel_are c p pos =
     let e : 3 * c ≡ c + c + c = omega arith in
     let r : low_bits c p.r ≡ span (pixel_bit c p) 0 c = component_bits c p 0 p.r 0 pos refl (omega arith) in
     let g : low_bits c p.g ≡ span (pixel_bit c p) (0 + c) c =
-      component_bits c p 1 p.g (0 + c) pos refl (omega arith) in
+    component_bits c p 1 p.g (0 + c) pos refl (omega arith) in
     let b : low_bits c p.b ≡ span (pixel_bit c p) (0 + (c + c)) c =
-      component_bits c p 2 p.b (0 + (c + c)) pos refl (omega arith) in
+    component_bits c p 2 p.b (0 + (c + c)) pos refl (omega arith) in
     rw (e, r, g, b) (sym (span-append (pixel_bit c p) 0 (c + c) c
-      ∙ ap (λ xs. xs ++ span (pixel_bit c p) (0 + (c + c)) c) (span-append (pixel_bit c p) 0 c c)))
+    ∙ ap (λ xs. xs ++ span (pixel_bit c p) (0 + (c + c)) c) (span-append (pixel_bit c p) 0 c c)))
 
 -- lists of one length in front of others
 pub split_alike : {A : Type 0} (xs us ys vs : List A) → length xs ≡ length us → xs ++ ys ≡ us ++ vs
@@ -88,10 +88,10 @@ pub split_alike : {A : Type 0} (xs us ys vs : List A) → length xs ≡ length u
 split_alike xs us ys vs h e =
     let x : xs ≡ us =
     sym (take-append_seam xs ys) ∙ (ap (λ zs. take (length xs) zs) e
-      ∙ (ap (λ n. take n (us ++ vs)) h ∙ take-append_seam us vs)) in
+    ∙ (ap (λ n. take n (us ++ vs)) h ∙ take-append_seam us vs)) in
     let y : ys ≡ vs =
     sym (drop-append_seam xs ys) ∙ (ap (λ zs. drop (length xs) zs) e
-      ∙ (ap (λ n. drop n (us ++ vs)) h ∙ drop-append_seam us vs)) in
+    ∙ (ap (λ n. drop n (us ++ vs)) h ∙ drop-append_seam us vs)) in
     (x, y)
 
 pub record IsPacked (f : ℕ → ℕ) (s : ℕ) (bytes left : List ℕ) : Type 0 where
@@ -106,7 +106,7 @@ packed_cons f s x bytes left h small rest =
     let on : s + suc (length bytes) ≡ s + 1 + length bytes = omega arith in
     record {
       bytes_are = ap (λ y. y ∷ bytes) byte ∙ (ap (λ ys. byte_at f s ∷ ys) rest.bytes_are
-        ∙ sym (span-cons (byte_at f) s (length bytes)));
+          ∙ sym (span-cons (byte_at f) s (length bytes)));
       left_are = rw on rest.left_are;
     }
 
@@ -118,7 +118,7 @@ split_byte f s n x more long whole =
     sym (span-append f (8 * s) 8 (n - 8)) ∙ (ap (λ k. span f (8 * s) k) (sym is) ∙ whole) in
     let at : 8 * (s + 1) ≡ 8 * s + 8 = omega arith in
     rw at (split_alike (span f (8 * s) 8) (low_bits 8 x) (span f (8 * s + 8) (n - 8)) more (length-span f (8 * s) 8
-      ∙ sym (length-low_bits 8 x)) both)
+    ∙ sym (length-low_bits 8 x)) both)
 
 -- bits by their places, packed, are bytes by their places and bits by their places
 pub packed : (f : ℕ → ℕ) (s n : ℕ) (bytes left : List ℕ) → span f (8 * s) n ≡ bits_of_bytes bytes ++ left
@@ -131,10 +131,15 @@ packed f s n [] left e small =
     record { bytes_are = sym (span-none (byte_at f) s); left_are = rw (z, ← l) (sym e) }
 packed f s n (x ∷ bytes) left e small =
     let whole : span f (8 * s) n ≡ low_bits 8 x ++ (bits_of_bytes bytes ++ left) = e
-      ∙ append_assoc (low_bits 8 x) (bits_of_bytes bytes) left in
+    ∙ append_assoc (low_bits 8 x) (bits_of_bytes bytes) left in
     let long : 8 ≤ n =
-    omega (arith, sym (length-span f (8 * s) n)
-      ∙ ap length whole, length-append (low_bits 8 x) (bits_of_bytes bytes ++ left), length-low_bits 8 x) in
+    omega (
+      arith,
+      sym (length-span f (8 * s) n)
+          ∙ ap length whole,
+      length-append (low_bits 8 x) (bits_of_bytes bytes ++ left),
+      length-low_bits 8 x,
+    ) in
     let parts = split_byte f s n x (bits_of_bytes bytes ++ left) long whole in
     packed_cons f s x bytes left parts.0 (small 0 0 (omega arith))
     (packed f (s + 1) (n - 8) bytes left parts.1 (λ k d h. small (suc k) d (omega (arith, h))))

@@ -28,7 +28,7 @@ span-same f g a b zero h = span-none f a ∙ sym (span-none g b)
 span-same f g a b (suc n) h =
     let first : f a ≡ g b = rw (zero_more a, zero_more b) at (h 0 (omega arith)) in
     let rest : span f (a + 1) n ≡ span g (b + 1) n =
-      span-same f g (a + 1) (b + 1) n (λ k i. rw (one_more a k, one_more b k) (h (suc k) (omega (arith, i)))) in
+    span-same f g (a + 1) (b + 1) n (λ k i. rw (one_more a k, one_more b k) (h (suc k) (omega (arith, i)))) in
     span-cons f a n ∙ (ap (λ x. x ∷ span f (a + 1) n) first ∙ (ap (λ xs. g b ∷ xs) rest ∙ sym (span-cons g b n)))
   where
     zero_more : (x : ℕ) → x + 0 ≡ x
@@ -51,7 +51,7 @@ span-append f a (suc m) n =
 pub span-more : {A : Type 0} (f : ℕ → A) (a n : ℕ) → span f a (n + 1) ≡ span f a n ++ f (a + n) ∷ []
 span-more f a n =
     span-append f a n 1 ∙ ap (λ xs. span f a n ++ xs) (span-cons f (a + n) 0
-      ∙ ap (λ xs. f (a + n) ∷ xs) (span-none f (a + n + 1)))
+    ∙ ap (λ xs. f (a + n) ∷ xs) (span-none f (a + n + 1)))
 
 -- a list is mapped to a span, and one more item to its next
 pub map_more : {A B : Type 0} (g : A → B) (f : ℕ → B) (xs : List A) (x : A) (k : ℕ)

@@ -37,11 +37,11 @@ pub bit_stays : (c : ℕ) (xs ys : List Pixel) (i : ℕ) → 1 ≤ c → i < len
     → lane_bit c (xs ++ ys) i ≡ lane_bit c xs i
 bit_stays c xs ys i pos h =
     let here : i / (3 * c) < length xs = (div-lt_iff_lt-mul {k = 3 * c} {x = i} {y =
-      length xs} (omega (arith, pos))).1 h in
+    length xs} (omega (arith, pos))).1 h in
     let there : i / (3 * c) < length (xs ++ ys) = omega (arith, here, length-append xs ys) in
     bit_there c (xs ++ ys) i there
     ∙ (ap (λ p. bit_at (component p (i % (3 * c) / c)) (c - 1 - i % c))
-      (get_or_append_left xs ys black (i / (3 * c)) here)
+    (get_or_append_left xs ys black (i / (3 * c)) here)
     ∙ sym (bit_there c xs i here))
 
 -- the bits of the next pixel
@@ -56,7 +56,7 @@ bit_of_next c xs p k pos h =
     let low : (length xs * (3 * c) + k) % c ≡ k % c =
     ap (λ i. i % c) parts ∙ mod-mul-add (length xs * 3 + k / c) c (k % c) (mod-lt k pos) in
     let there : (length xs * (3 * c) + k) / (3 * c) < length (xs ++ p ∷ []) =
-      omega (arith, q, length-append xs (p ∷ [])) in
+    omega (arith, q, length-append xs (p ∷ [])) in
     sym (bit_there c (xs ++ p ∷ []) (length xs * (3 * c) + k) there
     ∙ rw (q, m, low, get_or-append_seam xs p [] black) refl)
 
@@ -75,7 +75,7 @@ no_bit c xs i pos h =
 left_and_next : (c : ℕ) (xs : List Pixel) (p : Pixel) (old : List ℕ) → 1 ≤ c → LeftOfPixels c xs old
     → old ++ bits_of_pixel c p
     ≡ span (lane_bit c (xs ++ p ∷ [])) (8 * whole_byte_count c (length xs))
-      ((length xs + 1) * (3 * c) - 8 * whole_byte_count c (length xs))
+    ((length xs + 1) * (3 * c) - 8 * whole_byte_count c (length xs))
 left_and_next c xs p old pos is =
     let f : ℕ → ℕ = lane_bit c (xs ++ p ∷ []) in
     let n : ℕ = length xs * (3 * c) in
@@ -83,7 +83,7 @@ left_and_next c xs p old pos is =
     let few : 8 * whole_byte_count c (length xs) ≤ length xs * (3 * c) = omega arith in
     let front : span (lane_bit c xs) s (n - s) ≡ span f s (n - s) =
     span-same (lane_bit c xs) f s s (n - s) (λ k h. sym (bit_stays c xs (p ∷ []) (s + k) pos (omega (arith, h, few))))
-      in
+    in
     let next : bits_of_pixel c p ≡ span f (s + (n - s)) (3 * c) =
     bits_of_pixel_are c p pos
     ∙ span-same (pixel_bit c p) f 0 (s + (n - s)) (3 * c) (λ k h.
@@ -126,7 +126,7 @@ pushes c xs p old bytes new pos is e small short =
     let rest : length new ≡ total - 8 * whole_byte_count c (length xs + 1) = omega (arith, size, few, short) in
     record {
       bytes_are = parts.bytes_are ∙ (byte_is c (xs ++ p ∷ []) w (length bytes)
-        ∙ ap (λ k. span (line_byte (lane_line c (xs ++ p ∷ [])) 0) w k) count);
+          ∙ ap (λ k. span (line_byte (lane_line c (xs ++ p ∷ [])) 0) w k) count);
       left_are = parts.left_are
           ∙ (ap (λ j. span f (8 * j) (length new)) end
           ∙ (ap (λ k. span f (8 * whole_byte_count c (length xs + 1)) k) rest
@@ -168,7 +168,7 @@ finishes c xs old bytes pos is e small =
     let fill : padding old ≡ span f (8 * w + (n - 8 * w)) (8 * all - n) =
     padding_counts old (8 * all - n) (omega (arith, size)) (omega arith) (omega (arith, size))
     ∙ sym (zeros f (8 * w + (n - 8 * w)) (8 * all - n)
-      (λ k h. no_bit c xs (8 * w + (n - 8 * w) + k) pos (omega arith))) in
+    (λ k h. no_bit c xs (8 * w + (n - 8 * w) + k) pos (omega arith))) in
     let sum : 8 * all - 8 * w ≡ (n - 8 * w) + (8 * all - n) = omega arith in
     let bits : span f (8 * w) (8 * all - 8 * w) ≡ bits_of_bytes bytes ++ [] =
     ap (λ k. span f (8 * w) k) sum

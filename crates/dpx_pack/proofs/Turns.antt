@@ -20,12 +20,12 @@ use Rattle.dpx_pack.proofs.Spans.{span-same, span-more, length-span, get_or-span
 
 component_stays : (c : ℕ) (bytes more : List ℕ) (k place : ℕ) → place < 3 → (k + 1) * (3 * c) ≤ 8 * length bytes
     → carried_component c (λ j. get_or (bytes ++ more) j 0) k place
-      ≡ carried_component c (λ j. get_or bytes j 0) k place
+    ≡ carried_component c (λ j. get_or bytes j 0) k place
 unfolding carried_component span
 component_stays c bytes more k place three within =
     let room : suc place * c ≤ 3 * c = mul-le-mul_right c three in
     ap number_of (span-same (bit_in (bytes ++ more)) (bit_in bytes) (k * (3 * c) + place * c)
-      (k * (3 * c) + place * c) c
+    (k * (3 * c) + place * c) c
     (λ i h. bit_stays bytes more (k * (3 * c) + place * c + i) (omega (arith, within, room, h))))
 
 -- further bytes leave a whole pixel as it is
@@ -57,7 +57,7 @@ none_of_if false x e = refl
 count_grows : (c n : ℕ) → 3 ≤ c → whole_pixel_count c n ≤ whole_pixel_count c (n + 1)
 count_grows c n some =
     le-div (whole_pixel_count c n) (8 * (n + 1)) (3 * c) (omega (arith, some))
-      (omega (arith, div-add-mod' (8 * n) (3 * c)))
+    (omega (arith, div-add-mod' (8 * n) (3 * c)))
 
 count_grows_little : (c n : ℕ) → 3 ≤ c → whole_pixel_count c (n + 1) < whole_pixel_count c n + 2
 count_grows_little c n some =
@@ -73,7 +73,7 @@ pub no_pixel_more : (c : ℕ) (bytes : List ℕ) (n byte : ℕ) → 3 ≤ c → 
 no_pixel_more c bytes n byte some h none =
     let size : length (take n bytes) ≡ n = length-take-le n bytes (omega (arith, h)) in
     let test : nat_lt (whole_pixel_count c (length (take n bytes))) (whole_pixel_count c (length (take n bytes) + 1))
-      ≡ false =
+    ≡ false =
     none_of_if _ _ none in
     let test_n : nat_lt (whole_pixel_count c n) (whole_pixel_count c (n + 1)) ≡ false =
     ap (λ m. nat_lt (whole_pixel_count c m) (whole_pixel_count c (m + 1))) (sym size) ∙ test in
@@ -138,11 +138,15 @@ place_within : (c width lanes x : ℕ) → 3 ≤ c → 1 ≤ lanes → x < width
 place_within c width lanes x some pos h =
     let g : x / lanes < ceil_div width lanes =
     (div-lt_iff_lt-mul {k = lanes} {x = x} {y =
-      ceil_div width lanes} pos).1 (omega (arith, h, ceil_covers width lanes pos)) in
+    ceil_div width lanes} pos).1 (omega (arith, h, ceil_covers width lanes pos)) in
     let bytes : ceil_div width lanes * (3 * c) ≤ 8 * symbols_of width lanes (3 * c) =
     ceil_covers (ceil_div width lanes * (3 * c)) 8 (omega arith) in
-    omega (arith, g, le-div (ceil_div width lanes) (8 * symbols_of width lanes (3 * c)) (3 * c)
-      (omega (arith, some)) bytes)
+    omega (
+      arith,
+      g,
+      le-div (ceil_div width lanes) (8 * symbols_of width lanes (3 * c)) (3 * c)
+          (omega (arith, some)) bytes,
+    )
 
 length_lane_pixels : (c : ℕ) (bytes : List ℕ) → length (lane_pixels c bytes) ≡ whole_pixel_count c (length bytes)
 unfolding lane_pixels
@@ -151,14 +155,14 @@ length_lane_pixels c bytes = length-span (carried_pixel c (λ j. get_or bytes j 
 
 pub have_turns : (c width : ℕ) (line : List (List ℕ)) → 3 ≤ c → 1 ≤ length line
     → All (λ bytes. length bytes ≡ symbols_of width (length line) (3 * c)) line
-      → HaveTurns (lanes_unpacked c line) width
+    → HaveTurns (lanes_unpacked c line) width
 have_turns c width line some pos sizes x h =
     let size : length (lanes_unpacked c line) ≡ length line =
     length-span (λ lane. lane_pixels c (get_or line lane [])) 0 (length line) in
     let bytes : length (get_or line (x % length line) []) ≡ symbols_of width (length line) (3 * c) =
     sizes (x % length line) [] (mod-lt x pos) in
     let many : length (lane_with (lanes_unpacked c line) x)
-      ≡ whole_pixel_count c (symbols_of width (length line) (3 * c)) =
+    ≡ whole_pixel_count c (symbols_of width (length line) (3 * c)) =
     ap length (lane_of_turn c line x pos)
     ∙ (length_lane_pixels c (get_or line (x % length line) []) ∙ ap (whole_pixel_count c) bytes) in
     let here : x / length line < length (lane_with (lanes_unpacked c line) x) =
@@ -191,7 +195,7 @@ pub turns_unpack : (c width : ℕ) (line : List (List ℕ)) → 3 ≤ c → 1 �
 unfolding unpacked span
 turns_unpack c width line some pos sizes =
     span-same (pixel_in_turn (lanes_unpacked c line))
-      (λ x. carried_pixel c (byte_of line (x % length line)) (x / length line)) 0 0 width
+    (λ x. carried_pixel c (byte_of line (x % length line)) (x / length line)) 0 0 width
     (λ x h.
     let at : 0 + x ≡ x = omega arith in
     rw at (turn_is c width line x some pos sizes h))

@@ -16,7 +16,7 @@ pub returns-clause-bits : goal.returns-clause-bits
 returns-clause-bits c =
     let k : c.args.count - c.args.width < 64 = omega arith in
     rw (one_shifted (c.args.count - c.args.width) k)
-      (split_at c.args.count c.args.width c.args.value c.requires.width.0)
+    (split_at c.args.count c.args.width c.args.value c.requires.width.0)
 
 pub overflow_cast-result-2 : goal.overflow_cast-result-2
 overflow_cast-result-2 c =

@@ -26,15 +26,17 @@ loop-group-preserved g c =
     let firsts = lane_firsts pixels c.args.lane c.args.count k in
     let next : c.pixel_at.result ≡ get_or pixels (c.args.lane + c.args.count * k) black = c.pixel_at.ensures in
     let appended : c.append.new.bytes.items ≡ c.loop-group.bytes.items ++ c.as_slice.result.now =
-      c.in_ok-append.ensures in
+    c.in_ok-append.ensures in
     record {
-      taken = rw (one_more pixels c.args.lane c.args.count k,
-        ← next) (c.push-whole.ensures.stands firsts c.loop-group.invariant.taken);
+      taken = rw (
+        one_more pixels c.args.lane c.args.count k,
+        ← next,
+      ) (c.push-whole.ensures.stands firsts c.loop-group.invariant.taken);
       bytes = appended ∙ (ap (λ more. c.loop-group.bytes.items ++ more) c.as_slice.ensures.value
           ∙ next_bytes pixels c.args.lane c.args.count C k c.loop-group.bytes.items c.push-whole.result.items
-            (omega (arith, c.requires.depth.0))
+          (omega (arith, c.requires.depth.0))
           c.loop-group.invariant.bytes (rw (← next)
-            (c.push-whole.ensures.places firsts c.loop-group.invariant.taken)));
+          (c.push-whole.ensures.places firsts c.loop-group.invariant.taken)));
     }
 
 pub returns : goal.returns
@@ -45,12 +47,12 @@ returns g c =
     let some : 1 ≤ c.args.count = omega (arith, c.requires.lane.0) in
     let groups = c.div_ceil-group-end.ensures ∙ div_ceil_is (length pixels) c.args.count some in
     let end : k ≡ ceil_div (length pixels) c.args.count =
-      omega (arith, c.loop-group-test.false, c.loop-group.auto.group-end, groups) in
+    omega (arith, c.loop-group-test.false, c.loop-group.auto.group-end, groups) in
     let appended : c.append-2.new.bytes.items ≡ c.loop-group.bytes.items ++ c.as_slice-2.result.now =
-      c.in_ok-append-2.ensures in
+    c.in_ok-append-2.ensures in
     appended ∙ (ap (λ more. c.loop-group.bytes.items ++ more) c.as_slice-2.ensures.value
     ∙ all_bytes pixels c.args.lane c.args.count C c.loop-group.bytes.items c.finish_line-last.result.items
     (omega (arith, c.requires.depth.0)) some
     (rw (← end) c.loop-group.invariant.bytes)
     (rw (← end) (c.finish_line-last.ensures.places
-      (lane_firsts pixels c.args.lane c.args.count k) c.loop-group.invariant.taken)))
+    (lane_firsts pixels c.args.lane c.args.count k) c.loop-group.invariant.taken)))

@@ -10,5 +10,5 @@ invariant-loop-group g l =
     record {
       taken : LeftOfPixels g.row.C (lane_firsts l.pixels l.lane l.count l.group) l.packer;
       bytes : l.bytes.items ≡ span (line_byte (line_of l.pixels l.count g.row.C) l.lane) 0
-        (whole_byte_count g.row.C l.group);
+          (whole_byte_count g.row.C l.group);
     }

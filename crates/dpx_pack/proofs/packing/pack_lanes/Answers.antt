@@ -28,8 +28,14 @@ pub from_lanes-requires : goal.from_lanes-requires
 from_lanes-requires g c =
     let size : length c.loop-lane.packed.items ≡ c.loop-lane.lane =
     length_mapped (λ bytes. bytes.items) _ c.loop-lane.packed.items c.loop-lane.lane c.loop-lane.invariant in
-    one_two_or_four c.args.lanes _ (omega (arith, size, c.loop-lane-test.false, c.loop-lane.auto.lane-end,
-      c.from-count.ensures, c.count.ensures))
+    one_two_or_four c.args.lanes _ (omega (
+      arith,
+      size,
+      c.loop-lane-test.false,
+      c.loop-lane.auto.lane-end,
+      c.from-count.ensures,
+      c.count.ensures,
+    ))
 
 pub returns-clause-bytes : goal.returns-clause-bytes
 unfolding packed_lanes
@@ -37,7 +43,7 @@ returns-clause-bytes g c =
     let end : c.loop-lane.lane ≡ lanes_count c.args.lanes =
     omega (arith, c.loop-lane-test.false, c.loop-lane.auto.lane-end, c.from-count.ensures, c.count.ensures) in
     let same : c.from-count.result ≡ lanes_count c.args.lanes =
-      omega (arith, c.from-count.ensures, c.count.ensures) in
+    omega (arith, c.from-count.ensures, c.count.ensures) in
     c.from_lanes.ensures
     ∙ (c.loop-lane.invariant
     ∙ (ap (λ n. span (lane_bytes (line_of c.args.pixels.now n g.row.C)) 0 c.loop-lane.lane) same

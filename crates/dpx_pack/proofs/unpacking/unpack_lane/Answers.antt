@@ -23,11 +23,11 @@ loop-byte-preserved g c =
     let completed = c.push.ensures.places (take k bytes) c.loop-byte.invariant.taken in
     record {
       taken = rw (← first_and_next bytes k _ within refl)
-        (c.push.ensures.stands (take k bytes) c.loop-byte.invariant.taken);
+          (c.push.ensures.stands (take k bytes) c.loop-byte.invariant.taken);
       pixels = elim c.match-push.branch [
         | in-Some+in_ok-push w ↦
             let appended : w.push-in-Some.new.items.items ≡ c.loop-byte.pixels.items ++ w.in-Some.pixel ∷ [] =
-              w.in_ok-push.ensures in
+            w.in_ok-push.ensures in
             rw (w.pixels-is) (appended ∙ (ap (λ l. l ++ w.in-Some.pixel ∷ []) c.loop-byte.invariant.pixels
             ∙ sym (one_pixel_more g.row.C bytes k _ w.in-Some.pixel some within refl (sym completed ∙ w.in-Some.is))))
         | in_default w ↦

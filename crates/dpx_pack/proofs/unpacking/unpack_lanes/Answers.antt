@@ -19,7 +19,7 @@ loop-lane-preserved g c =
     get_or_from_slice_get c.args.line.now c.loop-lane.lane c.lane.result.now [] c.lane.ensures in
     ap (map (λ pixels. pixels.items)) c.in_ok-push.ensures
     ∙ map_more (λ pixels. pixels.items) _ c.loop-lane.lanes.items c.in_ok-pixels.pixels c.loop-lane.lane
-      c.loop-lane.invariant
+    c.loop-lane.invariant
     (c.in_ok-pixels.ensures ∙ ap (lane_pixels g.row.C) (sym bytes))
 
 some_lanes : (count n : ℕ) → (count ≡ 1) ⊎ ((count ≡ 2) ⊎ (count ≡ 4)) → count ≡ n → 1 ≤ n
@@ -36,13 +36,13 @@ take_turns-requires-clause-lanes g c =
     let size : length c.loop-lane.lanes.items ≡ c.loop-lane.lane =
     length_mapped (λ pixels. pixels.items) _ c.loop-lane.lanes.items c.loop-lane.lane c.loop-lane.invariant in
     let pos : 1 ≤ c.count-lane-end.result = some_lanes c.count-lane-end.result c.count-lane-end.result
-      c.count-lane-end.ensures.lanes refl in
+    c.count-lane-end.ensures.lanes refl in
     rw (c.as_slice.ensures.value, size) (omega (arith, pos, c.loop-lane-test.false))
 
 -- the pixels of all lanes
 all_lanes : (c : ℕ) (line : List (List ℕ)) (n : ℕ) (lanes pixels : List (List Pixel)) → pixels ≡ lanes
     → lanes ≡ span (λ lane. lane_pixels c (get_or line lane [])) 0 n → n ≡ length line
-      → pixels ≡ lanes_unpacked c line
+    → pixels ≡ lanes_unpacked c line
 all_lanes c line n lanes pixels same is end = same
     ∙ (is ∙ ap (span (λ lane. lane_pixels c (get_or line lane [])) 0) end)
 
@@ -52,14 +52,14 @@ take_turns-requires-clause-room g c =
     let end : c.loop-lane.lane ≡ length line = ends c.loop-lane.lane c.count-lane-end.result (length line)
     c.loop-lane-test.false c.loop-lane.auto.lane-end c.count-lane-end.ensures.value in
     let lanes = all_lanes g.row.C line c.loop-lane.lane _ _
-      (ap (map (λ pixels. pixels.items)) c.as_slice.ensures.value)
+    (ap (map (λ pixels. pixels.items)) c.as_slice.ensures.value)
     c.loop-lane.invariant end in
     let pos : 1 ≤ length line = some_lanes c.count-lane-end.result
-      (length line) c.count-lane-end.ensures.lanes c.count-lane-end.ensures.value in
+    (length line) c.count-lane-end.ensures.lanes c.count-lane-end.ensures.value in
     let P : List (List Pixel) → Type 0 = λ l. HaveTurns l c.from.result in
     subst P (sym lanes)
     (rw c.from.ensures (have_turns g.row.C c.args.width line
-      (omega (arith, c.requires.depth.0)) pos c.requires.bytes))
+    (omega (arith, c.requires.depth.0)) pos c.requires.bytes))
 
 pub returns-clause-pixels : goal.returns-clause-pixels
 returns-clause-pixels g c =
@@ -67,13 +67,13 @@ returns-clause-pixels g c =
     let end : c.loop-lane.lane ≡ length line = ends c.loop-lane.lane c.count-lane-end.result (length line)
     c.loop-lane-test.false c.loop-lane.auto.lane-end c.count-lane-end.ensures.value in
     let lanes = all_lanes g.row.C line c.loop-lane.lane _ _
-      (ap (map (λ pixels. pixels.items)) c.as_slice.ensures.value)
+    (ap (map (λ pixels. pixels.items)) c.as_slice.ensures.value)
     c.loop-lane.invariant end in
     let pos : 1 ≤ length line = some_lanes c.count-lane-end.result
-      (length line) c.count-lane-end.ensures.lanes c.count-lane-end.ensures.value in
+    (length line) c.count-lane-end.ensures.lanes c.count-lane-end.ensures.value in
     IfOk-weaker c.take_turns.result _ _
     (λ pixels is. is ∙ (ap (λ l. in_turn l c.from.result) lanes
-      ∙ (ap (in_turn (lanes_unpacked g.row.C line)) c.from.ensures
+    ∙ (ap (in_turn (lanes_unpacked g.row.C line)) c.from.ensures
     ∙ turns_unpack g.row.C c.args.width line (omega (arith, c.requires.depth.0)) pos c.requires.bytes)))
     c.take_turns.ensures
 

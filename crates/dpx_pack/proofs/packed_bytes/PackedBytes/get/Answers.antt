@@ -3,8 +3,12 @@ use Rattle.dpx_pack.proofs.LowBytes.{length-low_bytes, get-low_bytes}
 use Rattle.dpx_pack.proofs.packed_bytes.PackedBytes.get.Goals as goal
 
 within : goal.overflow_sub-behind
-within c = omega (arith, c.from.ensures, length-low_bytes c.self.inside.count c.self.inside.value,
-    ap length c.self.view_is)
+within c = omega (
+  arith,
+  c.from.ensures,
+  length-low_bytes c.self.inside.count c.self.inside.value,
+  ap length c.self.view_is,
+)
 
 pub overflow_sub-behind : goal.overflow_sub-behind
 overflow_sub-behind = within

@@ -7,7 +7,7 @@ use Rattle.dpx_pack.proofs.packer.Packer.finish_line.Goals as goal
 pub returns-then-self-gt0-clause-bits : goal.returns-then-self-gt0-clause-bits
 returns-then-self-gt0-clause-bits g c =
     let long : length (low_bits c.self.inside.left c.self.inside.value) ≡ c.self.inside.left =
-      length-low_bits c.self.inside.left c.self.inside.value in
+    length-low_bits c.self.inside.left c.self.inside.value in
     rw (
       c.push.ensures.items,
       c.new-bytes.ensures,
@@ -24,8 +24,11 @@ returns-then-self-gt0-clause-empty g c = refl
 pub returns-else-self-gt0-clause-bits : goal.returns-else-self-gt0-clause-bits
 unfolding bits_of_bytes
 returns-else-self-gt0-clause-bits g c =
-    rw (c.new-bytes.ensures, ← c.self.view_is,
-      no_bits c.self.inside.left c.self.inside.value (omega (arith, c.if-self-gt0.false))) refl
+    rw (
+      c.new-bytes.ensures,
+      ← c.self.view_is,
+      no_bits c.self.inside.left c.self.inside.value (omega (arith, c.if-self-gt0.false)),
+    ) refl
 
 pub returns-else-self-gt0-clause-empty : goal.returns-else-self-gt0-clause-empty
 returns-else-self-gt0-clause-empty g c = rw (← c.self.view_is)
