@@ -4,7 +4,8 @@
 //! * `file_source`, `file_sink`: bytes from a file; bytes to a file or to standard output
 #![tactic(auto)]
 
-ghost use Rattle.std.specs.Prelude.{IfOk};
+ghost use Rattle.std.specs.Prelude.{◌≡◌, ◌≢◌, IfOk};
+ghost use Rattle.dpx_base.specs.Faults.{Rose};
 ghost use Rattle.dpx_cli.specs.Status.{IsExitStatus};
 
 mod file_sink;
@@ -24,6 +25,7 @@ use std::process::ExitCode;
 use std::rt::{Env, Files};
 
 fn main(rt: HostRuntime) -> ExitCode {
+    let _streams = occupy_streams(&rt);
     let mut out = FileSink::output(rt.stdout());
     match run(&rt, &mut out) {
         Ok(status) => ExitCode::from(status),
@@ -34,9 +36,17 @@ fn main(rt: HostRuntime) -> ExitCode {
     }
 }
 
+/// A standard stream that was closed would be taken by the first file that is opened, and get the report. So three
+/// files that can't be written are opened first, and held to the end: then each of the three streams is something.
+fn occupy_streams<R: Files<File = File>>(files: &R) -> [Option<File>; 3] {
+    [(), (), ()].map(|()| File::open(files, "/").ok())
+}
+
 /// Opens the files that the words name, and gives the command's status.
 fn run<R: Env + Files<File = File> + AllocGlobal>(rt: &R, out: &mut FileSink) -> Result<u8, Memory>
-    ensures { IfOk result IsExitStatus }
+    ensures statuses { IfOk result IsExitStatus }
+    ensures write_fault { IfOk result (λ status. status ≡ 8 → Rose out.old.faults out.new.faults) }
+    ensures writes_are_calm { IfOk result (λ status. status ≢ 8 → out.new.faults ≡ out.old.faults) }
 {
     let words = words(rt)?;
     let mut aux = PlanPort::new(rt.alloc())?;

@@ -1,5 +1,6 @@
-ghost use Rattle.std.specs.Prelude.{◌≡◌, ◌≢◌, ◌+◌, ◌≤◌, None, IsSomeAnd};
+ghost use Rattle.std.specs.Prelude.{◌≡◌, ◌≢◌, ◌⊎◌, ◌+◌, ◌≤◌, None, IsSome, IsSomeAnd};
 ghost use Rattle.dpx_base.specs.Faults.{Rose};
+ghost use Rattle.dpx_link.specs.Training.{training_entries};
 ghost use Rattle.dpx_cli.specs.declared.stop.Stop.{Stop};
 ghost use Rattle.dpx_cli.specs.Printing.{StopsAtOnce};
 ghost use Rattle.dpx_cli.specs.Status.{IsExitStatus, IsClean, Means};
@@ -29,10 +30,12 @@ pub fn replay<S: Source, P: LoadPort, O: Sink>(
     out: &mut O,
 ) -> u8
     // Whatever is answered: training asks at most 3,104 AUX requests, over all of the call, and trained is said only
-    // where the last status shows every lane in use done.
+    // where the last status shows every lane in use done. A port that surely tells as many entries as a training has
+    // tells its history to the end.
     ensures bounded { (P.state aux.new).asked_in_all ≤ (P.state aux.old).asked_in_all + 3104 }
     ensures trained { IsSomeAnd (command_in words.now) IsTrain → result ≡ 0
         → SaysTrained (P.state aux.new) (O.seen out.old ⇒ O.seen out.new) }
+    ensures told { training_entries ≤ P.surely_told → (aux.new ≡ aux.old) ⊎ IsSome (P.state aux.new).history }
 
     // There is no other status. A fault comes only where its object counted one, and none that was counted is passed
     // over.

@@ -1,4 +1,5 @@
-ghost use Rattle.std.specs.Prelude.{◌≡◌};
+ghost use Rattle.std.specs.Prelude.{◌≡◌, ◌≤◌, ◌⊎◌, IsSome};
+ghost use Rattle.dpx_link.specs.Training.{training_entries};
 ghost use Rattle.dpx_cli.specs.Printing.{StepsDo};
 ghost use Rattle.dpx_cli.specs.Step.{◌⇒◌};
 ghost use Rattle.dpx_cli.specs.Train.{TrainCauses, TrainDoes};
@@ -19,7 +20,8 @@ pub(crate) fn train<S: Source, P: LoadPort, O: Sink>(
     aux: &mut P,
     out: &mut O,
 ) -> u8
-    ensures { TrainDoes (S.seen src.old ⇒ S.seen src.new)
+    ensures told { training_entries ≤ P.surely_told → (aux.new ≡ aux.old) ⊎ IsSome (P.state aux.new).history }
+    ensures does { TrainDoes (S.seen src.old ⇒ S.seen src.new)
         (P.state aux.old ⇒ P.state aux.new) (aux.new ≡ aux.old) (O.seen out.old ⇒ O.seen out.new) result }
 {
     let done = train_steps(alloc, src, aux, out);
@@ -32,7 +34,8 @@ fn train_steps<S: Source, P: LoadPort, O: Sink>(
     aux: &mut P,
     out: &mut O,
 ) -> Result<(), Stop>
-    ensures { StepsDo
+    ensures told { training_entries ≤ P.surely_told → (aux.new ≡ aux.old) ⊎ IsSome (P.state aux.new).history }
+    ensures steps { StepsDo
         (TrainCauses (S.seen src.old ⇒ S.seen src.new) (P.state aux.old ⇒ P.state aux.new) (aux.new ≡ aux.old))
         (O.seen out.old ⇒ O.seen out.new) result }
 {

@@ -1,5 +1,6 @@
-ghost use Rattle.std.specs.Prelude.{◌≡◌};
+ghost use Rattle.std.specs.Prelude.{◌≡◌, ◌≤◌, IsSome};
 ghost use Rattle.dpx_dpcd.specs.Model.{IsPlan};
+ghost use Rattle.dpx_link.specs.Training.{training_entries};
 ghost use Rattle.dpx_cli.specs.Step.{◌⇒◌};
 ghost use Rattle.dpx_cli.specs.Training.{TrainedWith, TrainStep, trained_link};
 
@@ -8,7 +9,7 @@ use crate::stop::Stop;
 use dpx_base::{Link, Sink};
 use dpx_complete::training_is_complete;
 use dpx_dpcd::{LoadPort, SinkPlan};
-use dpx_link::{TrainEnd, is_read_last, train};
+use dpx_link::{TrainEnd, is_bounded, is_read_last, train};
 use std::alloc::Global;
 
 /// Loads the plan, trains the link, and prints that it is trained. The answer is the link that was trained.
@@ -20,7 +21,8 @@ pub(crate) fn train_link<P: LoadPort, O: Sink>(
     out: &mut O,
 ) -> Result<Link, Stop>
     requires { IsPlan plan }
-    ensures { TrainStep link plan (P.state port.old ⇒ P.state port.new) (O.seen out.old ⇒ O.seen out.new) result }
+    ensures step { TrainStep link plan (P.state port.old ⇒ P.state port.new) (O.seen out.old ⇒ O.seen out.new) result }
+    ensures told { training_entries ≤ P.surely_told → IsSome (P.state port.new).history }
 {
     let end = train_loaded(port, link, plan);
     let Some(trained) = trained_link(&end) else {
@@ -35,11 +37,13 @@ pub(crate) fn train_link<P: LoadPort, O: Sink>(
 /// Loads the plan, and trains the link against it.
 fn train_loaded<P: LoadPort>(port: &mut P, link: Link, plan: SinkPlan) -> TrainEnd
     requires { IsPlan plan }
-    ensures { TrainedWith link plan (P.state port.old ⇒ P.state port.new) result }
+    ensures trained { TrainedWith link plan (P.state port.old ⇒ P.state port.new) result }
+    ensures told { training_entries ≤ P.surely_told → IsSome (P.state port.new).history }
 {
     port.load(plan);
     training_is_complete();
     is_read_last(link);
+    is_bounded(link);
     train(port, link)
 }
 

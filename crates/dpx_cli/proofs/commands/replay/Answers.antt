@@ -6,7 +6,7 @@ use Rattle.dpx_cli.proofs.commands.replay.Goals.{in-Ok-Train, in-Err-Usage, in-E
 pub returns-clause-train : goal.returns-clause-train
 returns-clause-train g c asked =
     elim c.match-read_words.branch [
-      | in-Ok-Train w ↦ rw (w.src-is, w.aux-is, w.out-is, w.result-is) w.train.ensures
+      | in-Ok-Train w ↦ rw (w.src-is, w.aux-is, w.out-is, w.result-is) w.train.ensures.does
       | in-Err-Usage w ↦ search rules
       | in-Err-Memory w ↦
           rw (w.src-is, w.aux-is, w.out-is, w.result-is)

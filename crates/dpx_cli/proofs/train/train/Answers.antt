@@ -3,9 +3,9 @@ use Rattle.dpx_cli.proofs.Printings.{command_prints}
 use Rattle.dpx_cli.proofs.Trainings.{train_does}
 use Rattle.dpx_cli.proofs.train.train.Goals as goal
 
-pub returns : goal.returns
-returns g c =
-    let steps = c.train_steps-done.ensures in
+pub returns-clause-does : goal.returns-clause-does
+returns-clause-does g c =
+    let steps = c.train_steps-done.ensures.steps in
     let src = g.S.Source.seen c.args.src.now ⇒ g.S.Source.seen c.train_steps-done.new.src in
     let port = g.P.AuxPort.state c.args.aux.now ⇒ g.P.AuxPort.state c.train_steps-done.new.aux in
     let out = g.O.Sink.seen c.args.out.now ⇒ g.O.Sink.seen c.finish.new.out in

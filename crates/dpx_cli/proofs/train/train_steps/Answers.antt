@@ -6,8 +6,8 @@ use Rattle.dpx_cli.specs.Training.{TrainStep}
 use Rattle.dpx_cli.proofs.Trainings.{training_done, training_stopped}
 use Rattle.dpx_cli.proofs.train.train_steps.Goals as goal
 
-pub returns : goal.returns
-returns g c =
+pub returns-clause-steps : goal.returns-clause-steps
+returns-clause-steps g c =
     let src = g.S.Source.seen c.args.src.now ⇒ g.S.Source.seen c.read_job_for.new.src in
     let port = g.P.AuxPort.state c.args.aux.now ⇒ g.P.AuxPort.state c.train_link.new.port in
     let out = g.O.Sink.seen c.args.out.now in
@@ -18,8 +18,8 @@ returns g c =
     let step : TrainStep (link_asked job) (plan_asked job) port (out ⇒ out_now) (Ok link) = search rules in
     training_done src port kept out out_now job c.in_ok-link.ensures link step
 
-pub returns-in_err-train_link : goal.returns-in_err-train_link
-returns-in_err-train_link g c =
+pub returns-in_err-train_link-clause-steps : goal.returns-in_err-train_link-clause-steps
+returns-in_err-train_link-clause-steps g c =
     let p = err_from_is_err_and c.from_residual-in_err-train_link.result c.from_residual-in_err-train_link.ensures.1 in
     let src = g.S.Source.seen c.args.src.now ⇒ g.S.Source.seen c.read_job_for.new.src in
     let port = g.P.AuxPort.state c.args.aux.now ⇒ g.P.AuxPort.state c.train_link.new.port in

@@ -3,8 +3,8 @@ use Rattle.std.specs.Prelude.{IfSome}
 use Rattle.dpx_cli.proofs.Modelled.{told_end, told_since}
 use Rattle.dpx_cli.proofs.training.train_loaded.Goals as goal
 
-pub returns : goal.returns
-returns g c =
+pub returns-clause-trained : goal.returns-clause-trained
+returns-clause-trained g c =
     let training = c.train.ensures.training in
     let fresh = c.load.ensures.loaded in
     let anew = c.load.ensures.anew in
@@ -29,3 +29,12 @@ returns g c =
       as_planned = told_end law.complete law.deferred c.args.plan c.args.link c.train.result training.entries
           now.plan now.history c.requires training.done loaded history answers;
     }
+
+-- the history that the load began has room for all of a training
+pub returns-clause-told : goal.returns-clause-told
+returns-clause-told g c long =
+    let training = c.train.ensures.training in
+    let anew = c.load.ensures.anew in
+    let law = c.is_bounded.ensures in
+    let few = law.entries c.train.result training.entries training.done in
+    training.added.told_on (omega (arith, few, long, anew.room)) (anew.told (omega (arith, law.numbers, long)))
