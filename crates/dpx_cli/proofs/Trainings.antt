@@ -1,5 +1,6 @@
 -- The command `train`, from its steps to its contract.
-use Rattle.std.proofs.Common.{◌≡◌, ◌⊎◌, ℕ, List, [], ◌++◌, refl, sym, ap, ◌∙◌, subst, arith, inl, inr, Result, Ok, Err, Option, Some, None}
+use Rattle.std.proofs.Common.{◌≡◌, ◌⊎◌, ℕ, List, [], ◌++◌, refl, sym, ap, ◌∙◌, subst, arith, inl, inr, Result, Ok, Err}
+use Rattle.std.proofs.Common.{Option, Some, None}
 use Rattle.std.specs.Prelude.{⊤, IfSome, IsSome, IsSomeAnd, IsOk, IsErr}
 use Rattle.dpx_base.specs.declared.aux_port.Entry.{Entry}
 use Rattle.dpx_base.specs.declared.link.Link.{Link}
@@ -98,7 +99,8 @@ says_trained src port out (Trained link drive last requests) t printed is = reco
   last = last;
   requests = requests;
   done = t.trained.done;
-  read_last = told_of (IsLastReadWith link.lanes drive last) port.now.history t.trained.entries t.trained.history t.trained.read_last;
+  read_last =
+      told_of (IsLastReadWith link.lanes drive last) port.now.history t.trained.entries t.trained.history t.trained.read_last;
   counted = t.trained.told_requests;
   printed = printed;
 }

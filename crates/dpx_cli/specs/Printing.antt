@@ -53,7 +53,8 @@ IsReport said (Err OutFault) text = text ≡ said
 IsReport said (Err stop) text = (text ≡ said ++ stop_lines stop) ⊎ (text ≡ said ++ memory_line)
 
 -- The steps of a command come to an end that has its cause, and print what goes with it.
-pub record StepsDo (Causes : Result ⊤ Stop → List ℕ → Type 0) (out : Step SinkSeen) (done : Result ⊤ Stop) : Type 0 where
+pub record StepsDo (Causes : Result ⊤ Stop → List ℕ → Type 0) (out : Step SinkSeen)
+    (done : Result ⊤ Stop) : Type 0 where
   pub said : List ℕ
   pub caused : Causes done said
   pub printed : StepsPrint out said done
