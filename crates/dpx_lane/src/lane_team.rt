@@ -31,7 +31,8 @@ impl LaneTeam<LaneTx> {
     /// Lanes on the way out that took nothing.
     pub fn tx(lanes: Lanes) -> LaneTeam<LaneTx>
         ensures lanes { result.lanes ≡ lanes }
-        ensures nothing { TeamSent 0 result.states (replicate (lanes_count lanes) []) (replicate (lanes_count lanes) []) }
+        ensures nothing { TeamSent 0 result.states
+            (replicate (lanes_count lanes) []) (replicate (lanes_count lanes) []) }
     {
         LaneTeam {
             lanes,
