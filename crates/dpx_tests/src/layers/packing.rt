@@ -182,7 +182,10 @@ fn lane_is_packed_pixel_by_pixel(rt: HostRuntime) {
     let second = pixel(0xabc, 0xdef, 0x123);
     assert!(rt; is_in_range(&first, Depth::Twelve) && is_in_range(&second, Depth::Twelve));
     let mut packer = Packer::<12>::new();
-    assert_eq!(rt; packer.push(first).as_slice(), [0x00, 0x10, 0x02, 0x00].as_slice());
+    assert_eq!(rt;
+        packer.push(first).as_slice(),
+        [0x00, 0x10, 0x02, 0x00].as_slice()
+    );
     assert_eq!(rt; packer.finish_line().as_slice(), [0x30].as_slice());
     let bytes = packer.pack(second);
     assert_eq!(rt; bytes.len(), 4);
