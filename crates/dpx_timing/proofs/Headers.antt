@@ -3,7 +3,7 @@ use Rattle.std.proofs.Common.{ℕ, ◌+◌, ◌*◌, ◌/◌, ◌≤◌, arith, 
 use Rattle.std.specs.Prelude.{if◌then◌else◌}
 use Rattle.dpx_base.specs.declared.lanes.Lanes.{Lanes}
 use Rattle.dpx_base.specs.declared.lanes.Lanes.TheVariants.{One, Two, Four}
-use Rattle.dpx_base.specs.Lanes.{count_of}
+use Rattle.dpx_base.specs.Lanes.{lanes_count}
 use Rattle.dpx_base.specs.Plan.{PlanFacts, IsPlan, timing, group_length, block_length}
 use Rattle.dpx_base.specs.Slots.{header_start, attributes_length}
 use Rattle.dpx_base.specs.Timing.{Timing, symbols, gap}
@@ -27,7 +27,7 @@ pub header_short : (p : PlanFacts) → IsShort (group_length p.link) (block_leng
 header_short p = short p.link.enhanced p.link.lanes
   where
     short : (enhanced : Bool) (lanes : Lanes)
-        → IsShort (if enhanced then 4 else 1) (12 / count_of lanes) (3 + 36 / count_of lanes)
+        → IsShort (if enhanced then 4 else 1) (12 / lanes_count lanes) (3 + 36 / lanes_count lanes)
     short true One = these (omega arith) (omega arith) (omega arith) (omega arith)
     short true Two = these (omega arith) (omega arith) (omega arith) (omega arith)
     short true Four = these (omega arith) (omega arith) (omega arith) (omega arith)
@@ -37,8 +37,8 @@ header_short p = short p.link.enhanced p.link.lanes
 
 -- A line of at least 288 bits has clocks for the longest header: group, block and attributes.
 header_fits : (enhanced : Bool) (lanes : Lanes) (count clocks : ℕ) → count + 22 ≤ clocks
-    → 288 ≤ 8 * (count_of lanes * count)
-    → (if enhanced then 4 else 1) + 12 / count_of lanes + (3 + 36 / count_of lanes) ≤ clocks
+    → 288 ≤ 8 * (lanes_count lanes * count)
+    → (if enhanced then 4 else 1) + 12 / lanes_count lanes + (3 + 36 / lanes_count lanes) ≤ clocks
 header_fits true One count clocks h k = omega arith
 header_fits true Two count clocks h k = omega arith
 header_fits true Four count clocks h k = omega arith

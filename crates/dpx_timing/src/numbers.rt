@@ -2,7 +2,7 @@ ghost use Rattle.std.specs.Prelude.{◌≡◌, ◌≤◌, ◌<◌, ◌+◌, ◌-
 ghost use Rattle.dpx_base.specs.Timing.{IsFit, n, m, symbols, symbols_of, unit_of, carried, delay, due, last_unit};
 ghost use Rattle.dpx_base.specs.Timing.{line_end, gap, bound};
 ghost use Rattle.dpx_base.specs.Plan.{timing_of, group_length, block_length};
-ghost use Rattle.dpx_base.specs.Lanes.{count_of};
+ghost use Rattle.dpx_base.specs.Lanes.{lanes_count};
 ghost use Rattle.dpx_base.specs.Mode.{IsLegal, pixel_bits};
 ghost use Rattle.dpx_timing.specs.Numbers.{timing_in, clocks_of, IsSmall};
 
@@ -31,7 +31,7 @@ fn pixel_bits(depth: Depth) -> u128
 
 /// The symbols on each lane of a line of `width` pixels: the last pixels' lanes are filled up, and the last byte.
 pub fn symbols(width: u16, depth: Depth, lanes: Lanes) -> u32
-    ensures { result ≡ symbols_of width (count_of lanes) (pixel_bits depth) }
+    ensures { result ≡ symbols_of width (lanes_count lanes) (pixel_bits depth) }
 {
     let groups = ceil(u128::from(width), u128::from(lanes.count()));
     ceil(groups * pixel_bits(depth), 8) as u32
