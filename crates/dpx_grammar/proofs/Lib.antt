@@ -1,0 +1,14 @@
+pub mod Lists
+pub mod Runs
+pub mod Cuts
+pub mod Unique
+pub mod Sound
+pub mod Exact
+pub mod Fronts
+pub mod Prefixes
+pub mod Mores
+pub mod Rules
+pub mod Next
+pub mod Ids
+pub mod Plain
+pub mod Kept

@@ -1,0 +1,17 @@
+pub mod Example
+pub mod Bits
+pub mod Packs
+pub mod Trip
+pub mod Quiet
+pub mod Filled
+pub mod Actives
+pub mod Plans
+pub mod Periods
+pub mod Tolds
+pub mod Frames
+pub mod Whole
+pub mod Rows
+pub mod Table
+pub mod Given
+pub mod Received
+pub mod Sendable

@@ -1,0 +1,8 @@
+//! Main stream attributes.
+#![tactic(auto)]
+
+mod attributes;
+mod bad;
+
+pub use attributes::Attributes;
+pub use bad::MsaBad;
