@@ -1,6 +1,6 @@
 ghost use Rattle.std.specs.Prelude.{◌≡◌, ◌<◌, ◌≤◌, length, map, replicate, slice_get, Some};
 ghost use Rattle.dpx_base.specs.Lanes.{lanes_count};
-ghost use Rattle.dpx_base.specs.Symbols.{data_symbol};
+ghost use Rattle.dpx_base.specs.Symbols.{data_symbol, bytes_of};
 
 use crate::{LaneBytes, Lanes, Sym};
 use std::marker::Model;
@@ -90,6 +90,25 @@ impl LaneSet {
         LaneSet {
             symbols: [Sym::data(a), Sym::data(b), Sym::data(c), Sym::data(d)],
             count: bytes.count,
+        }
+    }
+
+    /// The symbols, lane 0 first.
+    pub fn as_slice(&self) -> &[Sym]
+        ensures value { result.now ≡ self.now }
+        ensures range { (1 ≤ length result.now) × (length result.now ≤ 4) }
+    {
+        &self.symbols[..usize::from(self.count)]
+    }
+
+    /// The bytes of the symbols.
+    pub fn bytes(&self) -> LaneBytes
+        ensures { result ≡ bytes_of self.now }
+    {
+        let [a, b, c, d] = self.symbols;
+        LaneBytes {
+            bytes: [a.byte, b.byte, c.byte, d.byte],
+            count: self.count,
         }
     }
 

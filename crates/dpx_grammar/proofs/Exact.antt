@@ -172,6 +172,7 @@ pub record ReadCut (enhanced : Bool) (lanes : ℕ) (sets : List (List Sym)) (who
   pub front : List (List Sym)
   pub cut : IsCut enhanced lanes sets whole next front
   pub tells : begun next front ≡ begun_of place
+  pub front_is : front ≡ map (token_set lanes) (front_of place)
 
 pub reads_cut : (enhanced : Bool) (lanes : Lanes) (sets : List (List Sym)) (whole : List Part) (place : Place) → Reads enhanced (lanes_count lanes) sets whole place
     → ReadCut enhanced (lanes_count lanes) sets whole place
@@ -207,6 +208,7 @@ reads_cut enhanced lanes sets whole place r =
           begun_is goes_on.next (map (token_set (lanes_count lanes)) (front_of place))
           ∙ ap (told_in goes_on.next) (length-map (front_of place) (token_set (lanes_count lanes)))
           ∙ goes_on.tells;
+      front_is = refl;
     }
 
 cut_reads : (enhanced : Bool) (lanes : Lanes) (sets : List (List Sym)) (whole : List Part) (next : Part) (front : List (List Sym)) → IsCut enhanced (lanes_count lanes) sets whole next front

@@ -3,6 +3,8 @@
 
 mod attributes;
 mod bad;
+mod reading;
 
 pub use attributes::Attributes;
 pub use bad::MsaBad;
+pub use reading::read_attributes;

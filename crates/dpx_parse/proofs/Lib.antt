@@ -1,0 +1,12 @@
+pub mod Bytes
+pub mod Fits
+pub mod Places
+pub mod Steps
+pub mod Keeps
+pub mod Tokens
+pub mod Takes
+pub mod Feeds
+pub mod Parsers
+pub mod Accepting
+pub mod Hearing
+pub mod Tails

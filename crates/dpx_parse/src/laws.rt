@@ -1,0 +1,11 @@
+ghost use Rattle.dpx_parse.specs.Laws.{AcceptsExactly, GivesFrames};
+
+/// A list of sets is accepted exactly where none of its parts has a fault.
+pub fn accepted_without_fault()
+    ensures { AcceptsExactly }
+{}
+
+/// The frames of an accepted list are what its events give.
+pub fn events_give_frames()
+    ensures { GivesFrames }
+{}
