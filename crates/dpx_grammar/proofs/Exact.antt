@@ -1,5 +1,6 @@
 -- The machine reads exactly the prefixes of lists of periods.
-use Rattle.std.proofs.Common.{ℕ, ◌/◌, ◌≤◌, ◌≡◌, ◌≢◌, ◌∙◌, Bool, List, [], ◌∷◌, ◌++◌, map, replicate, refl, sym, ap, subst, arith}
+use Rattle.std.proofs.Common.{ℕ, ◌/◌, ◌≤◌, ◌≡◌, ◌≢◌, ◌∙◌, Bool, List, [], ◌∷◌, ◌++◌, map, replicate, refl, sym, ap}
+use Rattle.std.proofs.Common.{subst, arith}
 use Rattle.std.specs.Prelude.{⊤}
 use Rattle.std.specs.List.{AllByRecursion, flat_map}
 use Rattle.std.proofs.lemmas.List.{length-map, map-append, length-replicate}
@@ -7,7 +8,9 @@ use Rattle.dpx_base.specs.declared.lanes.Lanes.{Lanes}
 use Rattle.dpx_base.specs.declared.lanes.Lanes.TheVariants.{One, Two, Four}
 use Rattle.dpx_base.specs.declared.sym.Sym.{Sym}
 use Rattle.dpx_base.specs.Lanes.{lanes_count}
-use Rattle.dpx_grammar.specs.Parts.{Part, group, block, filler, attributes, secondary, begins, valid, stuffing, sets_of, IsBlock, IsBlank, IsActive, MayBeActive, IsPeriod, ArePeriods, StartsWithSr, IsCut, begun}
+use Rattle.dpx_grammar.specs.Parts.{Part, group, block, filler, attributes, secondary, begins, valid, stuffing, sets_of}
+use Rattle.dpx_grammar.specs.Parts.{IsBlock, IsBlank, IsActive, MayBeActive, IsPeriod, ArePeriods, StartsWithSr, IsCut}
+use Rattle.dpx_grammar.specs.Parts.{begun}
 use Rattle.dpx_grammar.specs.Machine.{begun_of, token_set, Place, start, run, Reads, ReadsExactly}
 use Rattle.dpx_grammar.proofs.Runs.{tokens, Mode, opening, headed, blanking, showing, after, Chain, end}
 use Rattle.dpx_grammar.proofs.Cuts.{chain_join, begun_is, told_in}
@@ -66,7 +69,8 @@ period_from : (lanes : ℕ) (reset : Bool) (xs : List Part) → Headed lanes xs 
 period_from lanes reset xs h = record {
   periods = (group reset ∷ h.y ∷ (h.body.us ++ h.body.vs)) ∷ h.body.then_periods.periods;
   joined =
-      ap (λ zs. group reset ∷ zs) (h.joined ∙ ap (λ zs. h.y ∷ zs) (h.body.joined ∙ ap (λ zs. (h.body.us ++ h.body.vs) ++ zs) h.body.then_periods.joined));
+      ap (λ zs. group reset ∷ zs) (h.joined ∙ ap (λ zs. h.y ∷ zs)
+          (h.body.joined ∙ ap (λ zs. (h.body.us ++ h.body.vs) ++ zs) h.body.then_periods.joined));
   each = (
     record {
       head = group reset;
@@ -84,7 +88,8 @@ period_from lanes reset xs h = record {
 }
 
 show_one : (lanes : ℕ) (x : Part) (xs : List Part) → IsActive lanes x → Shown lanes xs → Shown lanes (x ∷ xs)
-show_one lanes x xs a s = record { acts = x ∷ s.acts; rest = s.rest; joined = ap (λ zs. x ∷ zs) s.joined; are = (a, s.are); then_periods = s.then_periods }
+show_one lanes x xs a s = record { acts = x ∷ s.acts; rest = s.rest; joined = ap (λ zs. x ∷ zs) s.joined; are =
+    (a, s.are); then_periods = s.then_periods }
 
 blank_one : (lanes : ℕ) (x : Part) (xs : List Part) → IsBlank lanes x → Blanks lanes xs → Blanks lanes (x ∷ xs)
 blank_one lanes x xs a s = record {
@@ -102,17 +107,22 @@ split lanes showing [] c b = record { acts = []; rest = []; joined = refl; are =
 split lanes showing (valid bytes ∷ xs) c b = show_one lanes (valid bytes) xs c.0 (split lanes showing xs c.1 b)
 split lanes showing (stuffing rows ∷ xs) c b = show_one lanes (stuffing rows) xs c.0 (split lanes showing xs c.1 b)
 split lanes showing (group reset ∷ xs) c b =
-    record { acts = []; rest = group reset ∷ xs; joined = refl; are = tt; then_periods = period_from lanes reset xs (split lanes headed xs c.1 b) }
+    record { acts = []; rest = group reset ∷ xs; joined = refl; are = tt; then_periods =
+        period_from lanes reset xs (split lanes headed xs c.1 b) }
 split lanes blanking [] c b =
-    record { us = []; vs = []; rest = []; joined = refl; are_blank = tt; are_active = tt; then_periods = no_periods lanes }
+    record { us = []; vs = []; rest = []; joined = refl; are_blank = tt; are_active = tt; then_periods =
+        no_periods lanes }
 split lanes blanking (filler bytes ∷ xs) c b = blank_one lanes (filler bytes) xs c.0 (split lanes blanking xs c.1 b)
-split lanes blanking (attributes rows ∷ xs) c b = blank_one lanes (attributes rows) xs c.0 (split lanes blanking xs c.1 b)
+split lanes blanking (attributes rows ∷ xs) c b =
+    blank_one lanes (attributes rows) xs c.0 (split lanes blanking xs c.1 b)
 split lanes blanking (secondary rows ∷ xs) c b = blank_one lanes (secondary rows) xs c.0 (split lanes blanking xs c.1 b)
 split lanes blanking (begins ∷ xs) c b =
     let s : Shown lanes xs = split lanes showing xs c.1 b in
-    record { us = []; vs = begins ∷ s.acts; rest = s.rest; joined = ap (λ zs. begins ∷ zs) s.joined; are_blank = tt; are_active = s.are; then_periods = s.then_periods }
+    record { us = []; vs = begins ∷ s.acts; rest = s.rest; joined = ap (λ zs. begins ∷ zs) s.joined; are_blank = tt;
+        are_active = s.are; then_periods = s.then_periods }
 split lanes blanking (group reset ∷ xs) c b =
-    record { us = []; vs = []; rest = group reset ∷ xs; joined = refl; are_blank = tt; are_active = tt; then_periods = period_from lanes reset xs (split lanes headed xs c.1 b) }
+    record { us = []; vs = []; rest = group reset ∷ xs; joined = refl; are_blank = tt; are_active = tt; then_periods =
+        period_from lanes reset xs (split lanes headed xs c.1 b) }
 split lanes headed (block rows ∷ xs) c b =
     record { y = block rows; ys = xs; joined = refl; is_block = c.0; body = split lanes blanking xs c.1 b }
 split lanes opening (group reset ∷ xs) c b = period_from lanes reset xs (split lanes headed xs c.1 b)
@@ -167,25 +177,30 @@ block_some Two = omega arith
 block_some Four = omega arith
 
 -- a cut that tells what the machine's place tells
-pub record ReadCut (enhanced : Bool) (lanes : ℕ) (sets : List (List Sym)) (whole : List Part) (place : Place) : Type 0 where
+pub record ReadCut (enhanced : Bool) (lanes : ℕ) (sets : List (List Sym)) (whole : List Part)
+    (place : Place) : Type 0 where
   pub next : Part
   pub front : List (List Sym)
   pub cut : IsCut enhanced lanes sets whole next front
   pub tells : begun next front ≡ begun_of place
   pub front_is : front ≡ map (token_set lanes) (front_of place)
 
-pub reads_cut : (enhanced : Bool) (lanes : Lanes) (sets : List (List Sym)) (whole : List Part) (place : Place) → Reads enhanced (lanes_count lanes) sets whole place
+pub reads_cut : (enhanced : Bool) (lanes : Lanes) (sets : List (List Sym)) (whole : List Part) (place : Place)
+    → Reads enhanced (lanes_count lanes) sets whole place
     → ReadCut enhanced (lanes_count lanes) sets whole place
 reads_cut enhanced lanes sets whole place r =
     let n : ℕ = lanes_count lanes in
     let ran : Ran enhanced (lanes_count lanes) opening start r.tokens [] whole place =
-    run_sound enhanced (lanes_count lanes) r.tokens whole place r.uniform (block_some lanes) opening start [] tt r.reached in
-    let goes_on : Goes enhanced (lanes_count lanes) (end opening ran.parts) place = goes enhanced (lanes_count lanes) (end opening ran.parts) place ran.stands in
+    run_sound enhanced (lanes_count lanes) r.tokens whole place r.uniform
+        (block_some lanes) opening start [] tt r.reached in
+    let goes_on : Goes enhanced (lanes_count lanes) (end opening ran.parts) place =
+        goes enhanced (lanes_count lanes) (end opening ran.parts) place ran.stands in
     let back : List Part = goes_on.next ∷ more_of (lanes_count lanes) (after goes_on.next) in
     let more = more_chain (lanes_count lanes) (after goes_on.next) (never_opening goes_on.next) in
     let chain : Chain (lanes_count lanes) opening (ran.parts ++ back) =
     chain_join (lanes_count lanes) opening ran.parts back ran.chain (goes_on.follows, more.0) in
-    let behind : IsBehind (end opening (ran.parts ++ back)) = subst (λ m. IsBehind m) (sym (end_join opening ran.parts back)) more.1 in
+    let behind : IsBehind (end opening (ran.parts ++ back)) =
+        subst (λ m. IsBehind m) (sym (end_join opening ran.parts back)) more.1 in
     let same : ran.parts ≡ whole = sym ran.grew in
     record {
       next = goes_on.next;
@@ -196,13 +211,17 @@ reads_cut enhanced lanes sets whole place r =
         joined =
             sym r.sets_are ∙ ap (map (token_set (lanes_count lanes))) ran.spelled
             ∙ map-append (token_set (lanes_count lanes)) (flat_map (tokens enhanced) ran.parts) (front_of place)
-            ∙ ap (λ zs. zs ++ map (token_set (lanes_count lanes)) (front_of place)) (parts_sets enhanced (lanes_count lanes) ran.parts)
-            ∙ ap (λ w. flat_map (sets_of enhanced (lanes_count lanes)) w ++ map (token_set (lanes_count lanes)) (front_of place)) same;
+            ∙ ap (λ zs. zs ++ map (token_set (lanes_count lanes)) (front_of place))
+                (parts_sets enhanced (lanes_count lanes) ran.parts)
+            ∙ ap (λ w. flat_map (sets_of enhanced (lanes_count lanes)) w ++ map (token_set (lanes_count lanes))
+                (front_of place)) same;
         of_next =
-            sym (part_sets enhanced (lanes_count lanes) goes_on.next) ∙ ap (map (token_set (lanes_count lanes))) goes_on.spelled
+            sym (part_sets enhanced (lanes_count lanes) goes_on.next)
+                ∙ ap (map (token_set (lanes_count lanes))) goes_on.spelled
             ∙ map-append (token_set (lanes_count lanes)) (front_of place) goes_on.back;
         unfinished = some_map (token_set (lanes_count lanes)) goes_on.back goes_on.unfinished;
-        are_periods = subst (λ w. ArePeriods (lanes_count lanes) (w ++ back)) same (chain_periods (lanes_count lanes) (ran.parts ++ back) chain behind);
+        are_periods = subst (λ w. ArePeriods (lanes_count lanes) (w ++ back)) same
+            (chain_periods (lanes_count lanes) (ran.parts ++ back) chain behind);
       };
       tells =
           begun_is goes_on.next (map (token_set (lanes_count lanes)) (front_of place))
@@ -211,11 +230,13 @@ reads_cut enhanced lanes sets whole place r =
       front_is = refl;
     }
 
-cut_reads : (enhanced : Bool) (lanes : Lanes) (sets : List (List Sym)) (whole : List Part) (next : Part) (front : List (List Sym)) → IsCut enhanced (lanes_count lanes) sets whole next front
+cut_reads : (enhanced : Bool) (lanes : Lanes) (sets : List (List Sym)) (whole : List Part) (next : Part)
+    (front : List (List Sym)) → IsCut enhanced (lanes_count lanes) sets whole next front
     → (place : Place) × Reads enhanced (lanes_count lanes) sets whole place
 cut_reads enhanced lanes sets whole next front c =
     let b = blocks lanes in
-    let r : IsRun enhanced (lanes_count lanes) b.0 sets whole next front = cut_runs enhanced (lanes_count lanes) b.0 sets whole next front b.1 c in (
+    let r : IsRun enhanced (lanes_count lanes) b.0 sets whole next front =
+        cut_runs enhanced (lanes_count lanes) b.0 sets whole next front b.1 c in (
       r.place,
       record {
         tokens = r.taken;
@@ -226,4 +247,5 @@ cut_reads enhanced lanes sets whole next front c =
     )
 
 pub reads_exactly : ReadsExactly
-reads_exactly enhanced lanes sets whole = (λ r. let c = reads_cut enhanced lanes sets whole r.0 r.1 in (c.next, c.front, c.cut), λ next front c. cut_reads enhanced lanes sets whole next front c)
+reads_exactly enhanced lanes sets whole = (λ r. let c = reads_cut enhanced lanes sets whole r.0 r.1 in
+    (c.next, c.front, c.cut), λ next front c. cut_reads enhanced lanes sets whole next front c)

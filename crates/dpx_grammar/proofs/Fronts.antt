@@ -1,10 +1,12 @@
 -- What holds of a list of sets holds of its fronts.
-use Rattle.std.proofs.Common.{ℕ, ◌≤◌, ◌≡◌, ◌∙◌, true, false, List, [], ◌∷◌, ◌++◌, length, refl, sym, ap, subst, arith, append_assoc}
+use Rattle.std.proofs.Common.{ℕ, ◌≤◌, ◌≡◌, ◌∙◌, true, false, List, [], ◌∷◌, ◌++◌, length, refl, sym, ap, subst, arith}
+use Rattle.std.proofs.Common.{append_assoc}
 use Rattle.std.specs.Prelude.{⊤}
 use Rattle.std.specs.List.{AllByRecursion}
 use Rattle.std.proofs.lemmas.List.{append-nil}
 use Rattle.dpx_grammar.specs.Parts.{Part, group, block, filler, attributes, secondary, begins, valid, stuffing}
-use Rattle.dpx_grammar.specs.Accepted.{copies, AreProgressive, HasOneId, valid_rows, is_ended, lines_of, Told, told_by, Frame, HasLength, line_length, pixels_of, IsFrame, AreFrames}
+use Rattle.dpx_grammar.specs.Accepted.{copies, AreProgressive, HasOneId, valid_rows, is_ended, lines_of, FrameParts}
+use Rattle.dpx_grammar.specs.Accepted.{frame_parts, Frame, HasLength, line_length, pixels_of, IsFrame, AreFrames}
 use Rattle.dpx_grammar.proofs.Lists.{all_append}
 
 -- what is told before the last part
@@ -29,7 +31,8 @@ rows_front (attributes rows ∷ w) x = omega arith
 rows_front (secondary rows ∷ w) x = omega arith
 rows_front (begins ∷ w) x = omega arith
 
-ended_front : (w : List Part) (x : Part) → is_ended w ≡ true → (is_ended (w ++ x ∷ []) ≡ true) × (valid_rows (w ++ x ∷ []) ≡ valid_rows w)
+ended_front : (w : List Part) (x : Part) → is_ended w ≡ true
+    → (is_ended (w ++ x ∷ []) ≡ true) × (valid_rows (w ++ x ∷ []) ≡ valid_rows w)
 ended_front [] x h = absurd (different h)
   where
     different : false ≡ true → ⊥
@@ -67,11 +70,12 @@ lines_front symbols (stuffing rows ∷ w) x h = lines_front symbols w x h
 
 -- ---- where attributes follow, the lines before them are told
 
-abbrev Tells : List Told → Type 0
+abbrev Tells : List FrameParts → Type 0
 Tells [] = ⊥
 Tells (t ∷ ts) = ⊤
 
-told_rows : (w : List Part) (x : Part) → Tells (told_by w) → (valid_rows (w ++ x ∷ []) ≡ valid_rows w) × (is_ended (w ++ x ∷ []) ≡ is_ended w)
+told_rows : (w : List Part) (x : Part) → Tells (frame_parts w)
+    → (valid_rows (w ++ x ∷ []) ≡ valid_rows w) × (is_ended (w ++ x ∷ []) ≡ is_ended w)
 told_rows [] x h = absurd h
 told_rows (valid row ∷ w) x h = let e = told_rows w x h in (ap (λ rows. row ∷ rows) e.0, e.1)
 told_rows (stuffing rows ∷ w) x h = told_rows w x h
@@ -82,7 +86,7 @@ told_rows (attributes rows ∷ w) x h = (refl, refl)
 told_rows (secondary rows ∷ w) x h = (refl, refl)
 told_rows (begins ∷ w) x h = (refl, refl)
 
-told_lines : (w : List Part) (x : Part) → Tells (told_by w) → length (lines_of (w ++ x ∷ [])) ≡ length (lines_of w)
+told_lines : (w : List Part) (x : Part) → Tells (frame_parts w) → length (lines_of (w ++ x ∷ [])) ≡ length (lines_of w)
 told_lines [] x h = absurd h
 told_lines (begins ∷ w) x h = omega (arith, told_lines w x h)
 told_lines (attributes rows ∷ w) x h = refl
@@ -93,7 +97,7 @@ told_lines (secondary rows ∷ w) x h = told_lines w x h
 told_lines (valid row ∷ w) x h = told_lines w x h
 told_lines (stuffing rows ∷ w) x h = told_lines w x h
 
-tells_more : (w : List Part) (x : Part) → Tells (told_by w) → Tells (told_by (w ++ x ∷ []))
+tells_more : (w : List Part) (x : Part) → Tells (frame_parts w) → Tells (frame_parts (w ++ x ∷ []))
 tells_more [] x h = absurd h
 tells_more (attributes rows ∷ w) x h = tt
 tells_more (begins ∷ w) x h = tells_more w x h
@@ -106,38 +110,42 @@ tells_more (stuffing rows ∷ w) x h = tells_more w x h
 
 -- ---- frames
 
-record IsFirst (lanes : ℕ) (t : Told) (ts : List Told) (f : Frame) (fs : List Frame) : Type 0 where
+record IsFirst (lanes : ℕ) (t : FrameParts) (ts : List FrameParts) (f : Frame) (fs : List Frame) : Type 0 where
   frame : IsFrame lanes t f
   most : length t.lines ≤ f.attributes.height
   whole : Tells ts → length t.lines ≡ f.attributes.height
   rest : AreFrames lanes ts fs
 
-first_of : (lanes : ℕ) (t : Told) (ts : List Told) (f : Frame) (fs : List Frame) → AreFrames lanes (t ∷ ts) (f ∷ fs) → IsFirst lanes t ts f fs
+first_of : (lanes : ℕ) (t : FrameParts) (ts : List FrameParts) (f : Frame) (fs : List Frame)
+    → AreFrames lanes (t ∷ ts) (f ∷ fs) → IsFirst lanes t ts f fs
 first_of lanes t [] f [] h = record { frame = h.0; most = h.1; whole = λ e. absurd e; rest = tt }
 first_of lanes t [] f (g ∷ fs) h = absurd h
 first_of lanes t (u ∷ ts) f fs h = record { frame = h.0; most = omega (arith, h.1); whole = λ e. h.1; rest = h.2 }
 
-made_of : (lanes : ℕ) (t : Told) (ts : List Told) (f : Frame) (fs : List Frame) → IsFirst lanes t ts f fs → AreFrames lanes (t ∷ ts) (f ∷ fs)
+made_of : (lanes : ℕ) (t : FrameParts) (ts : List FrameParts) (f : Frame) (fs : List Frame) → IsFirst lanes t ts f fs
+    → AreFrames lanes (t ∷ ts) (f ∷ fs)
 made_of lanes t [] f [] h = (h.frame, h.most)
 made_of lanes t [] f (g ∷ fs) h = absurd h.rest
 made_of lanes t (u ∷ ts) f fs h = (h.frame, h.whole tt, h.rest)
 
-pub frames_front : (lanes : ℕ) (w : List Part) (x : Part) (fs : List Frame) → AreFrames lanes (told_by (w ++ x ∷ [])) fs
-    → (gs : List Frame) × AreFrames lanes (told_by w) gs
+pub frames_front : (lanes : ℕ) (w : List Part) (x : Part) (fs : List Frame)
+    → AreFrames lanes (frame_parts (w ++ x ∷ [])) fs
+    → (gs : List Frame) × AreFrames lanes (frame_parts w) gs
 frames_front lanes [] x fs h = ([], tt)
 frames_front lanes (attributes rows ∷ w) x [] h = absurd (none lanes _ _ h)
   where
-    none : (lanes : ℕ) (t : Told) (ts : List Told) → AreFrames lanes (t ∷ ts) [] → ⊥
+    none : (lanes : ℕ) (t : FrameParts) (ts : List FrameParts) → AreFrames lanes (t ∷ ts) [] → ⊥
     none lanes t [] h = h
     none lanes t (u ∷ ts) h = h
 frames_front lanes (attributes rows ∷ w) x (f ∷ fs) h =
-    let a : IsFirst lanes (record { rows = rows; lines = lines_of (w ++ x ∷ []) }) (told_by (w ++ x ∷ [])) f fs =
-    first_of lanes (record { rows = rows; lines = lines_of (w ++ x ∷ []) }) (told_by (w ++ x ∷ [])) f fs h in
+    let a : IsFirst lanes (record { rows = rows; lines = lines_of (w ++ x ∷ []) }) (frame_parts (w ++ x ∷ [])) f fs =
+    first_of lanes (record { rows = rows; lines = lines_of (w ++ x ∷ []) }) (frame_parts (w ++ x ∷ [])) f fs h in
     let r = frames_front lanes w x fs a.rest in
     let l = lines_front (line_length lanes f.attributes) w x a.frame.lengths in
     let g : Frame = record { attributes = f.attributes; lines = pixels_of lanes f.attributes (lines_of w) } in (
       g ∷ r.0,
-      made_of lanes (record { rows = rows; lines = lines_of w }) (told_by w) (record { attributes = f.attributes; lines = pixels_of lanes f.attributes (lines_of w) }) r.0 (record {
+      made_of lanes (record { rows = rows; lines = lines_of w }) (frame_parts w)
+          (record { attributes = f.attributes; lines = pixels_of lanes f.attributes (lines_of w) }) r.0 (record {
         frame = record { read = a.frame.read; lengths = l.0; lines = refl };
         most = omega (arith, l.1, a.most);
         whole = λ e. sym (told_lines w x e) ∙ a.whole (tells_more w x e);
@@ -166,7 +174,9 @@ progressive_front : (xs ys : List ℕ) → AreProgressive (xs ++ ys) → AreProg
 progressive_front [] ys h = tt
 progressive_front (x ∷ xs) ys h = (h.0, all_front (λ other. other ≡ x) xs ys h.1)
 
-rows_block : (w : List Part) (a b : List (List ℕ)) → (valid_rows (w ++ block a ∷ []) ≡ valid_rows (w ++ block b ∷ [])) × (is_ended (w ++ block a ∷ []) ≡ is_ended (w ++ block b ∷ []))
+rows_block : (w : List Part) (a b : List (List ℕ))
+    → (valid_rows (w ++ block a ∷ []) ≡ valid_rows (w ++ block b ∷ []))
+    × (is_ended (w ++ block a ∷ []) ≡ is_ended (w ++ block b ∷ []))
 rows_block [] a b = (refl, refl)
 rows_block (valid row ∷ w) a b = let e = rows_block w a b in (ap (λ rows. row ∷ rows) e.0, e.1)
 rows_block (stuffing rows ∷ w) a b = rows_block w a b
@@ -188,10 +198,10 @@ lines_block (secondary rows ∷ w) a b = lines_block w a b
 lines_block (valid row ∷ w) a b = lines_block w a b
 lines_block (stuffing rows ∷ w) a b = lines_block w a b
 
-told_block : (w : List Part) (a b : List (List ℕ)) → told_by (w ++ block a ∷ []) ≡ told_by (w ++ block b ∷ [])
+told_block : (w : List Part) (a b : List (List ℕ)) → frame_parts (w ++ block a ∷ []) ≡ frame_parts (w ++ block b ∷ [])
 told_block [] a b = refl
 told_block (attributes rows ∷ w) a b =
-    ap (λ l. record { rows = rows; lines = l } ∷ told_by (w ++ block a ∷ [])) (lines_block w a b)
+    ap (λ l. record { rows = rows; lines = l } ∷ frame_parts (w ++ block a ∷ [])) (lines_block w a b)
     ∙ ap (λ t. record { rows = rows; lines = lines_of (w ++ block b ∷ []) } ∷ t) (told_block w a b)
 told_block (begins ∷ w) a b = told_block w a b
 told_block (group reset ∷ w) a b = told_block w a b
@@ -206,14 +216,15 @@ told_block (stuffing rows ∷ w) a b = told_block w a b
 pub record Holds (lanes : ℕ) (told : List Part) : Type 0 where
   pub ids : AllByRecursion HasOneId told
   pub frames : List Frame
-  pub are : AreFrames lanes (told_by told) frames
+  pub are : AreFrames lanes (frame_parts told) frames
 
 pub holds_front : (lanes : ℕ) (w : List Part) (x : Part) → Holds lanes (w ++ x ∷ []) → Holds lanes w
 holds_front lanes w x h =
     let f = frames_front lanes w x h.frames h.are in
     record { ids = all_front HasOneId w (x ∷ []) h.ids; frames = f.0; are = f.1 }
 
-pub holds_block : (lanes : ℕ) (w : List Part) (rows : List (List ℕ)) (r : List ℕ) → Holds lanes (w ++ block (rows ++ r ∷ []) ∷ []) → Holds lanes (w ++ block rows ∷ [])
+pub holds_block : (lanes : ℕ) (w : List Part) (rows : List (List ℕ)) (r : List ℕ)
+    → Holds lanes (w ++ block (rows ++ r ∷ []) ∷ []) → Holds lanes (w ++ block rows ∷ [])
 holds_block lanes w rows r h =
     let m = copies_more rows r in
     let last : HasOneId (block (rows ++ r ∷ [])) = (all_back HasOneId w (block (rows ++ r ∷ []) ∷ []) h.ids).0 in

@@ -6,9 +6,4 @@ pub mod Sound
 pub mod Exact
 pub mod Fronts
 pub mod Prefixes
-pub mod Mores
-pub mod Rules
-pub mod Next
-pub mod Ids
 pub mod Plain
-pub mod Kept

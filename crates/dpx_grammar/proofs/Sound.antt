@@ -1,10 +1,14 @@
 -- What the machine reads is a prefix of a list of periods.
-use Rattle.std.proofs.Common.{ℕ, zero, suc, ◌+◌, ◌/◌, ◌≤◌, ◌≡◌, ◌≢◌, ◌∙◌, Bool, true, false, List, [], ◌∷◌, ◌++◌, map, length, replicate, Option, Some, None, refl, sym, ap, subst, arith, append_assoc, length-append}
+use Rattle.std.proofs.Common.{ℕ, zero, suc, ◌+◌, ◌/◌, ◌≤◌, ◌≡◌, ◌≢◌, ◌∙◌, Bool, true, false, List, [], ◌∷◌, ◌++◌, map}
+use Rattle.std.proofs.Common.{length, replicate, Option, Some, None, refl, sym, ap, subst, arith, append_assoc}
+use Rattle.std.proofs.Common.{length-append}
 use Rattle.std.specs.Prelude.{⊤}
 use Rattle.std.specs.List.{AllByRecursion, flat_map}
 use Rattle.std.proofs.lemmas.List.{append-nil, map-append, length-map, length-replicate, take_at}
 use Rattle.dpx_grammar.specs.Parts.{Part, group, block, filler, attributes, secondary, valid, stuffing, AreRows}
-use Rattle.dpx_grammar.specs.Machine.{begun_of, a_bs, a_sr, a_be, an_ss, an_se, an_fs, an_fe, a_bf, Token, row, code, IsToken, Place, start, head, ids, blank, opened, numbers, packet, active, fill, step, run, go_on}
+use Rattle.dpx_grammar.specs.Machine.{begun_of, a_bs, a_sr, a_be, an_ss, an_se, an_fs, an_fe, a_bf, Token, row, code}
+use Rattle.dpx_grammar.specs.Machine.{IsToken, Place, start, head, ids, blank, opened, numbers, packet, active, fill}
+use Rattle.dpx_grammar.specs.Machine.{step, run, go_on}
 use Rattle.dpx_grammar.proofs.Cuts.{told_in}
 use Rattle.dpx_grammar.proofs.Runs.{tokens, Mode, opening, headed, blanking, showing, after, Follows, Chain, end}
 
@@ -47,9 +51,11 @@ abbrev pub Takes : Bool → ℕ → Mode → Place → Token → Option (Option 
 Takes enhanced lanes m s t None = ⊤
 Takes enhanced lanes m s t (Some (None, now)) = At enhanced lanes m now × (front_of now ≡ front_of s ++ t ∷ [])
 Takes enhanced lanes m s t (Some (Some part, now)) =
-    Follows lanes m part × (tokens enhanced part ≡ front_of s ++ t ∷ []) × At enhanced lanes (after part) now × (front_of now ≡ [])
+    Follows lanes m part × (tokens enhanced part ≡ front_of s ++ t ∷ []) × At enhanced lanes (after part) now
+        × (front_of now ≡ [])
 
-one_row : (lanes : ℕ) (rows : List (List ℕ)) (bytes : List ℕ) → AreRows lanes rows → length bytes ≡ lanes → AreRows lanes (rows ++ bytes ∷ [])
+one_row : (lanes : ℕ) (rows : List (List ℕ)) (bytes : List ℕ) → AreRows lanes rows → length bytes ≡ lanes
+    → AreRows lanes (rows ++ bytes ∷ [])
 one_row lanes [] bytes h e = (e, tt)
 one_row lanes (r ∷ rows) bytes h e = (h.0, one_row lanes rows bytes h.1 e)
 
@@ -62,7 +68,8 @@ longer xs x = length-append xs (x ∷ [])
 different : false ≡ true → ⊥
 different e = cc
 
-step_head : (enhanced : Bool) (lanes : ℕ) (m : Mode) (reset : Bool) (n : ℕ) (t : Token) → At enhanced lanes m (head reset n) → 1 ≤ 12 / lanes
+step_head : (enhanced : Bool) (lanes : ℕ) (m : Mode) (reset : Bool) (n : ℕ) (t : Token)
+    → At enhanced lanes m (head reset n) → 1 ≤ 12 / lanes
     → Takes enhanced lanes m (head reset n) t (step enhanced (12 / lanes) (36 / lanes) (head reset n) t)
 step_head true lanes opening true (suc zero) (code a_bf) h b = ((refl, refl, omega arith, omega arith), refl)
 step_head true lanes opening true (suc (suc zero)) (code a_bf) h b = ((refl, refl, omega arith, omega arith), refl)
@@ -86,7 +93,8 @@ step_head false lanes opening reset n t h b = absurd (different h.0)
 step_head false lanes blanking reset n t h b = absurd (different h.0)
 step_head false lanes showing reset n t h b = absurd (different h.0)
 
-step_ids : (enhanced : Bool) (lanes : ℕ) (m : Mode) (rows : List (List ℕ)) (n : ℕ) (t : Token) → At enhanced lanes m (ids rows n) → IsToken lanes t
+step_ids : (enhanced : Bool) (lanes : ℕ) (m : Mode) (rows : List (List ℕ)) (n : ℕ) (t : Token)
+    → At enhanced lanes m (ids rows n) → IsToken lanes t
     → Takes enhanced lanes m (ids rows n) t (step enhanced (12 / lanes) (36 / lanes) (ids rows n) t)
 step_ids enhanced lanes headed rows (suc zero) (row bytes) h g =
     ((one_row lanes rows bytes h.0 g, omega (arith, longer rows bytes, h.1)), row_end rows bytes, tt, refl)
@@ -99,36 +107,43 @@ step_ids enhanced lanes opening rows n t h g = absurd h
 step_ids enhanced lanes blanking rows n t h g = absurd h
 step_ids enhanced lanes showing rows n t h g = absurd h
 
-step_numbers : (enhanced : Bool) (lanes : ℕ) (m : Mode) (rows : List (List ℕ)) (n : ℕ) (t : Token) → At enhanced lanes m (numbers rows n) → IsToken lanes t
+step_numbers : (enhanced : Bool) (lanes : ℕ) (m : Mode) (rows : List (List ℕ)) (n : ℕ) (t : Token)
+    → At enhanced lanes m (numbers rows n) → IsToken lanes t
     → Takes enhanced lanes m (numbers rows n) t (step enhanced (12 / lanes) (36 / lanes) (numbers rows n) t)
 step_numbers enhanced lanes blanking rows (suc n) (row bytes) h g =
-    ((one_row lanes rows bytes h.0 g, omega (arith, longer rows bytes, h.1)), ap (λ xs. code an_ss ∷ code an_ss ∷ xs) (row_end rows bytes))
+    ((one_row lanes rows bytes h.0 g, omega (arith, longer rows bytes, h.1)),
+        ap (λ xs. code an_ss ∷ code an_ss ∷ xs) (row_end rows bytes))
 step_numbers enhanced lanes blanking rows zero (code an_se) h g = ((h.0, omega (arith, h.1)), refl, tt, refl)
 step_numbers enhanced lanes blanking rows n t h g = tt
 step_numbers enhanced lanes opening rows n t h g = absurd h
 step_numbers enhanced lanes headed rows n t h g = absurd h
 step_numbers enhanced lanes showing rows n t h g = absurd h
 
-step_packet : (enhanced : Bool) (lanes : ℕ) (m : Mode) (rows : List (List ℕ)) (t : Token) → At enhanced lanes m (packet rows) → IsToken lanes t
+step_packet : (enhanced : Bool) (lanes : ℕ) (m : Mode) (rows : List (List ℕ)) (t : Token)
+    → At enhanced lanes m (packet rows) → IsToken lanes t
     → Takes enhanced lanes m (packet rows) t (step enhanced (12 / lanes) (36 / lanes) (packet rows) t)
 step_packet enhanced lanes blanking rows (row bytes) h g =
-    ((one_row lanes rows bytes h.0 g, omega (arith, longer rows bytes, h.1)), ap (λ xs. code an_ss ∷ xs) (row_end rows bytes))
+    ((one_row lanes rows bytes h.0 g, omega (arith, longer rows bytes, h.1)),
+        ap (λ xs. code an_ss ∷ xs) (row_end rows bytes))
 step_packet enhanced lanes blanking rows (code an_se) h g = ((h.0, h.1), refl, tt, refl)
 step_packet enhanced lanes blanking rows t h g = tt
 step_packet enhanced lanes opening rows t h g = absurd h
 step_packet enhanced lanes headed rows t h g = absurd h
 step_packet enhanced lanes showing rows t h g = absurd h
 
-step_fill : (enhanced : Bool) (lanes : ℕ) (m : Mode) (rows : List (List ℕ)) (t : Token) → At enhanced lanes m (fill rows) → IsToken lanes t
+step_fill : (enhanced : Bool) (lanes : ℕ) (m : Mode) (rows : List (List ℕ)) (t : Token)
+    → At enhanced lanes m (fill rows) → IsToken lanes t
     → Takes enhanced lanes m (fill rows) t (step enhanced (12 / lanes) (36 / lanes) (fill rows) t)
-step_fill enhanced lanes showing rows (row bytes) h g = (one_row lanes rows bytes h g, ap (λ xs. code an_fs ∷ xs) (row_end rows bytes))
+step_fill enhanced lanes showing rows (row bytes) h g =
+    (one_row lanes rows bytes h g, ap (λ xs. code an_fs ∷ xs) (row_end rows bytes))
 step_fill enhanced lanes showing rows (code an_fe) h g = (h, refl, tt, refl)
 step_fill enhanced lanes showing rows t h g = tt
 step_fill enhanced lanes opening rows t h g = absurd h
 step_fill enhanced lanes headed rows t h g = absurd h
 step_fill enhanced lanes blanking rows t h g = absurd h
 
-step_takes : (enhanced : Bool) (lanes : ℕ) (m : Mode) (s : Place) (t : Token) → At enhanced lanes m s → IsToken lanes t → 1 ≤ 12 / lanes
+step_takes : (enhanced : Bool) (lanes : ℕ) (m : Mode) (s : Place) (t : Token) → At enhanced lanes m s → IsToken lanes t
+    → 1 ≤ 12 / lanes
     → Takes enhanced lanes m s t (step enhanced (12 / lanes) (36 / lanes) s t)
 step_takes enhanced lanes m (head reset n) t h g b = step_head enhanced lanes m reset n t h b
 step_takes enhanced lanes m (ids rows n) t h g b = step_ids enhanced lanes m rows n t h g
@@ -161,7 +176,8 @@ step_takes enhanced lanes m s t h g b = absurd h
 
 -- ---- runs
 
-pub record Ran (enhanced : Bool) (lanes : ℕ) (m : Mode) (s : Place) (ts : List Token) (whole ended : List Part) (now : Place) : Type 0 where
+pub record Ran (enhanced : Bool) (lanes : ℕ) (m : Mode) (s : Place) (ts : List Token) (whole ended : List Part)
+    (now : Place) : Type 0 where
   pub parts : List Part
   pub grew : ended ≡ whole ++ parts
   pub chain : Chain lanes m parts
@@ -175,10 +191,14 @@ some_is : (x y : List Part × Place) → Some x ≡ Some y → x ≡ y
 some_is x y e = cc
 
 -- one step more
-ran_more : (enhanced : Bool) (lanes : ℕ) (m : Mode) (s : Place) (t : Token) (ts : List Token) (whole ended : List Part) (now : Place) (o : Option (Option Part × Place))
+ran_more : (enhanced : Bool) (lanes : ℕ) (m : Mode) (s : Place) (t : Token) (ts : List Token) (whole ended : List Part)
+    (now : Place) (o : Option (Option Part × Place))
     → Takes enhanced lanes m s t o
-    → ((m : Mode) (s : Place) (whole : List Part) → At enhanced lanes m s → run enhanced (12 / lanes) (36 / lanes) whole s ts ≡ Some (ended, now) → Ran enhanced lanes m s ts whole ended now)
-    → go_on whole o (λ w p. run enhanced (12 / lanes) (36 / lanes) w p ts) ≡ Some (ended, now) → Ran enhanced lanes m s (t ∷ ts) whole ended now
+    → ((m : Mode) (s : Place) (whole : List Part) → At enhanced lanes m s
+        → run enhanced (12 / lanes) (36 / lanes) whole s ts ≡ Some (ended, now)
+        → Ran enhanced lanes m s ts whole ended now)
+    → go_on whole o (λ w p. run enhanced (12 / lanes) (36 / lanes) w p ts) ≡ Some (ended, now)
+        → Ran enhanced lanes m s (t ∷ ts) whole ended now
 ran_more enhanced lanes m s t ts whole ended now None h more e = absurd (no_some (ended, now) e)
 ran_more enhanced lanes m s t ts whole ended now (Some (None, next)) h more e =
     let r : Ran enhanced lanes m next ts whole ended now = more m next whole h.0 e in
@@ -190,7 +210,8 @@ ran_more enhanced lanes m s t ts whole ended now (Some (None, next)) h more e =
       spelled = sym (append_assoc (front_of s) (t ∷ []) ts) ∙ ap (λ xs. xs ++ ts) (sym h.1) ∙ r.spelled;
     }
 ran_more enhanced lanes m s t ts whole ended now (Some (Some part, next)) h more e =
-    let r : Ran enhanced lanes (after part) next ts (whole ++ part ∷ []) ended now = more (after part) next (whole ++ part ∷ []) h.2 e in
+    let r : Ran enhanced lanes (after part) next ts (whole ++ part ∷ []) ended now =
+        more (after part) next (whole ++ part ∷ []) h.2 e in
     let rest : ts ≡ flat_map (tokens enhanced) r.parts ++ front_of now = ap (λ xs. xs ++ ts) (sym h.3) ∙ r.spelled in
     record {
       parts = part ∷ r.parts;
@@ -198,12 +219,16 @@ ran_more enhanced lanes m s t ts whole ended now (Some (Some part, next)) h more
       chain = (h.0, r.chain);
       stands = r.stands;
       spelled =
-          sym (append_assoc (front_of s) (t ∷ []) ts) ∙ ap (λ xs. xs ++ ts) (sym h.1) ∙ ap (λ xs. tokens enhanced part ++ xs) rest
+          sym (append_assoc (front_of s) (t ∷ []) ts) ∙ ap (λ xs. xs ++ ts) (sym h.1)
+              ∙ ap (λ xs. tokens enhanced part ++ xs) rest
           ∙ sym (append_assoc (tokens enhanced part) (flat_map (tokens enhanced) r.parts) (front_of now));
     }
 
-pub run_sound : (enhanced : Bool) (lanes : ℕ) (ts : List Token) (ended : List Part) (now : Place) → AllByRecursion (IsToken lanes) ts → 1 ≤ 12 / lanes
-    → (m : Mode) (s : Place) (whole : List Part) → At enhanced lanes m s → run enhanced (12 / lanes) (36 / lanes) whole s ts ≡ Some (ended, now) → Ran enhanced lanes m s ts whole ended now
+pub run_sound : (enhanced : Bool) (lanes : ℕ) (ts : List Token) (ended : List Part) (now : Place)
+    → AllByRecursion (IsToken lanes) ts → 1 ≤ 12 / lanes
+    → (m : Mode) (s : Place) (whole : List Part) → At enhanced lanes m s
+        → run enhanced (12 / lanes) (36 / lanes) whole s ts ≡ Some (ended, now)
+        → Ran enhanced lanes m s ts whole ended now
 run_sound enhanced lanes [] ended now good b m s whole h e =
     let p = some_is (whole, s) (ended, now) e in
     let w : whole ≡ ended = ap (λ x. x.0) p in
@@ -216,7 +241,8 @@ run_sound enhanced lanes [] ended now good b m s whole h e =
       spelled = append-nil (front_of s) ∙ ap front_of q;
     }
 run_sound enhanced lanes (t ∷ ts) ended now good b m s whole h e =
-    ran_more enhanced lanes m s t ts whole ended now (step enhanced (12 / lanes) (36 / lanes) s t) (step_takes enhanced lanes m s t h good.0 b) (run_sound enhanced lanes ts ended now good.1 b) e
+    ran_more enhanced lanes m s t ts whole ended now (step enhanced (12 / lanes) (36 / lanes) s t)
+        (step_takes enhanced lanes m s t h good.0 b) (run_sound enhanced lanes ts ended now good.1 b) e
 
 -- ---- each place can be gone on from
 
@@ -251,32 +277,43 @@ some_rows : (lanes n : ℕ) → 1 ≤ n → map row (replicate n (zeros lanes)) 
 some_rows lanes zero h = absurd (omega arith)
 some_rows lanes (suc n) h = some_cons (row (zeros lanes)) (map row (replicate n (zeros lanes)))
 
-head_goes : (lanes : ℕ) (m : Mode) (reset : Bool) (n : ℕ) → 1 ≤ n → n ≤ 3 → Follows lanes m (group reset) → Goes true lanes m (head reset n)
+head_goes : (lanes : ℕ) (m : Mode) (reset : Bool) (n : ℕ) → 1 ≤ n → n ≤ 3 → Follows lanes m (group reset)
+    → Goes true lanes m (head reset n)
 head_goes lanes m true (suc zero) a b f =
-    record { next = group true; back = code a_bf ∷ code a_bf ∷ code a_sr ∷ []; follows = f; spelled = refl; unfinished = some_cons _ _; tells = refl }
+    record { next = group true; back = code a_bf ∷ code a_bf ∷ code a_sr ∷ []; follows = f; spelled = refl; unfinished =
+        some_cons _ _; tells = refl }
 head_goes lanes m true (suc (suc zero)) a b f =
-    record { next = group true; back = code a_bf ∷ code a_sr ∷ []; follows = f; spelled = refl; unfinished = some_cons _ _; tells = refl }
+    record { next = group true; back = code a_bf ∷ code a_sr ∷ []; follows = f; spelled = refl; unfinished =
+        some_cons _ _; tells = refl }
 head_goes lanes m true (suc (suc (suc zero))) a b f =
-    record { next = group true; back = code a_sr ∷ []; follows = f; spelled = refl; unfinished = some_cons _ _; tells = refl }
+    record { next = group true; back = code a_sr ∷ []; follows = f; spelled = refl; unfinished = some_cons _ _; tells =
+        refl }
 head_goes lanes m false (suc zero) a b f =
-    record { next = group false; back = code a_bf ∷ code a_bf ∷ code a_bs ∷ []; follows = f; spelled = refl; unfinished = some_cons _ _; tells = refl }
+    record { next = group false; back = code a_bf ∷ code a_bf ∷ code a_bs ∷ []; follows = f; spelled = refl;
+        unfinished = some_cons _ _; tells = refl }
 head_goes lanes m false (suc (suc zero)) a b f =
-    record { next = group false; back = code a_bf ∷ code a_bs ∷ []; follows = f; spelled = refl; unfinished = some_cons _ _; tells = refl }
+    record { next = group false; back = code a_bf ∷ code a_bs ∷ []; follows = f; spelled = refl; unfinished =
+        some_cons _ _; tells = refl }
 head_goes lanes m false (suc (suc (suc zero))) a b f =
-    record { next = group false; back = code a_bs ∷ []; follows = f; spelled = refl; unfinished = some_cons _ _; tells = refl }
+    record { next = group false; back = code a_bs ∷ []; follows = f; spelled = refl; unfinished = some_cons _ _; tells =
+        refl }
 head_goes lanes m reset zero a b f = absurd (omega arith)
 head_goes lanes m reset (suc (suc (suc (suc n)))) a b f = absurd (omega arith)
 
-ids_tell : (rows zs : List (List ℕ)) (n : ℕ) → told_in (block (rows ++ zs)) (length (map row rows)) ≡ begun_of (ids rows n)
+ids_tell : (rows zs : List (List ℕ)) (n : ℕ)
+    → told_in (block (rows ++ zs)) (length (map row rows)) ≡ begun_of (ids rows n)
 ids_tell [] zs n = refl
-ids_tell (r ∷ rows) zs n = ap (λ xs. block (r ∷ xs) ∷ []) (take_at rows zs (length (map row rows)) (sym (length-map rows row)))
+ids_tell (r ∷ rows) zs n = ap (λ xs. block (r ∷ xs) ∷ [])
+    (take_at rows zs (length (map row rows)) (sym (length-map rows row)))
 
 pub goes : (enhanced : Bool) (lanes : ℕ) (m : Mode) (s : Place) → At enhanced lanes m s → Goes enhanced lanes m s
 unfolding zeros
 goes true lanes opening start h =
-    record { next = group true; back = code a_sr ∷ code a_bf ∷ code a_bf ∷ code a_sr ∷ []; follows = refl; spelled = refl; unfinished = some_cons _ _; tells = refl }
+    record { next = group true; back = code a_sr ∷ code a_bf ∷ code a_bf ∷ code a_sr ∷ []; follows = refl; spelled =
+        refl; unfinished = some_cons _ _; tells = refl }
 goes false lanes opening start h =
-    record { next = group true; back = code a_sr ∷ []; follows = refl; spelled = refl; unfinished = some_cons _ _; tells = refl }
+    record { next = group true; back = code a_sr ∷ []; follows = refl; spelled = refl; unfinished = some_cons _ _;
+        tells = refl }
 goes true lanes opening (head reset n) h = head_goes lanes opening reset n h.2 h.3 h.1
 goes true lanes blanking (head reset n) h = head_goes lanes blanking reset n h.1 h.2 tt
 goes true lanes showing (head reset n) h = head_goes lanes showing reset n h.1 h.2 tt
@@ -295,7 +332,8 @@ goes enhanced lanes headed (ids rows n) h = record {
   tells = ids_tell rows (replicate n (zeros lanes)) n;
 }
 goes enhanced lanes blanking blank h =
-    record { next = filler (zeros lanes); back = row (zeros lanes) ∷ []; follows = length-replicate lanes 0; spelled = refl; unfinished = some_cons _ _; tells = refl }
+    record { next = filler (zeros lanes); back = row (zeros lanes) ∷ []; follows = length-replicate lanes 0; spelled =
+        refl; unfinished = some_cons _ _; tells = refl }
 goes enhanced lanes blanking opened h = record {
   next = secondary (zeros lanes ∷ []);
   back = row (zeros lanes) ∷ code an_se ∷ [];
@@ -313,14 +351,18 @@ goes enhanced lanes blanking (numbers rows n) h = record {
   );
   spelled =
       ap (λ xs. code an_ss ∷ code an_ss ∷ (xs ++ code an_se ∷ [])) (map-append row rows (replicate n (zeros lanes)))
-      ∙ ap (λ xs. code an_ss ∷ code an_ss ∷ xs) (append_assoc (map row rows) (map row (replicate n (zeros lanes))) (code an_se ∷ []));
+      ∙ ap (λ xs. code an_ss ∷ code an_ss ∷ xs)
+          (append_assoc (map row rows) (map row (replicate n (zeros lanes))) (code an_se ∷ []));
   unfinished = some_append (code an_se) (map row (replicate n (zeros lanes)));
   tells = refl;
 }
 goes enhanced lanes blanking (packet rows) h =
-    record { next = secondary rows; back = code an_se ∷ []; follows = h; spelled = refl; unfinished = some_cons _ _; tells = refl }
+    record { next = secondary rows; back = code an_se ∷ []; follows = h; spelled = refl; unfinished = some_cons _ _;
+        tells = refl }
 goes enhanced lanes showing active h =
-    record { next = valid (zeros lanes); back = row (zeros lanes) ∷ []; follows = length-replicate lanes 0; spelled = refl; unfinished = some_cons _ _; tells = refl }
+    record { next = valid (zeros lanes); back = row (zeros lanes) ∷ []; follows = length-replicate lanes 0; spelled =
+        refl; unfinished = some_cons _ _; tells = refl }
 goes enhanced lanes showing (fill rows) h =
-    record { next = stuffing (Some rows); back = code an_fe ∷ []; follows = h; spelled = refl; unfinished = some_cons _ _; tells = refl }
+    record { next = stuffing (Some rows); back = code an_fe ∷ []; follows = h; spelled = refl; unfinished =
+        some_cons _ _; tells = refl }
 goes enhanced lanes m s h = absurd h

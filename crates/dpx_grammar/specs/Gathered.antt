@@ -5,4 +5,5 @@ use Rattle.std.specs.List.{range_with_len}
 -- the 36 bytes that rows carry: column k is on lane k % L, behind the columns that the lane has before it
 unfoldable pub gathered : (lanes : ℕ) → List (List ℕ) → List ℕ
 gathered lanes rows =
-    map (λ place. slice_index (slice_index_or rows (place / 9 / lanes * 9 + place % 9) []) (place / 9 % lanes)) (range_with_len 0 36)
+    map (λ place. slice_index (slice_index_or rows (place / 9 / lanes * 9 + place % 9) []) (place / 9 % lanes))
+        (range_with_len 0 36)

@@ -8,8 +8,8 @@ use Rattle.dpx_base.specs.Symbols.{control_symbol, bf, cp}
 use Rattle.dpx_grammar.specs.Accepted.{Frame, Receives, IsAccepted}
 
 -- What is received of a list of sets is one: no other frames and no other tail.
-abbrev pub IsOne : Type 0
-IsOne =
+abbrev pub IsOneReception : Type 0
+IsOneReception =
     (enhanced : Bool) (lanes : Lanes) (sets : List (List Sym)) (frames others : List Frame) (tail other : ℕ)
     → Receives enhanced (lanes_count lanes) sets frames tail → Receives enhanced (lanes_count lanes) sets others other
     → (frames ≡ others) × (tail ≡ other)
@@ -24,7 +24,7 @@ abbrev pub IsPlain : Sym → Type 0
 IsPlain symbol = (symbol ≢ control_symbol bf) × (symbol ≢ control_symbol cp)
 
 -- In default framing BF and CP are never accepted, on any lane.
-abbrev pub NeverBf : Type 0
-NeverBf =
+abbrev pub DefaultHasNoBf : Type 0
+DefaultHasNoBf =
     (lanes : Lanes) (sets : List (List Sym)) → IsAccepted false (lanes_count lanes) sets
     → AllByRecursion (λ set. AllByRecursion IsPlain set) sets

@@ -1,11 +1,13 @@
 -- The machine that reads sets one by one: this project's own.
-use Rattle.std.specs.Prelude.{ℕ, zero, suc, ◌≡◌, ◌/◌, ⊤, Bool, true, false, List, [], ◌∷◌, ◌++◌, map, length, Option, Some, None}
+use Rattle.std.specs.Prelude.{ℕ, zero, suc, ◌≡◌, ◌/◌, ⊤, Bool, true, false, List, [], ◌∷◌, ◌++◌, map, length, Option}
+use Rattle.std.specs.Prelude.{Some, None}
 use Rattle.std.specs.List.{AllByRecursion}
 use Rattle.dpx_base.specs.declared.lanes.Lanes.{Lanes}
 use Rattle.dpx_base.specs.Lanes.{lanes_count}
 use Rattle.dpx_base.specs.declared.sym.Sym.{Sym}
 use Rattle.dpx_base.specs.Symbols.{bs, sr, be, ss, se, fs, fe, bf}
-use Rattle.dpx_grammar.specs.Parts.{Part, group, block, filler, attributes, secondary, begins, valid, stuffing, data_set, control_set, IsCut}
+use Rattle.dpx_grammar.specs.Parts.{Part, group, block, filler, attributes, secondary, begins, valid, stuffing}
+use Rattle.dpx_grammar.specs.Parts.{data_set, control_set, IsCut}
 
 -- a control symbol that a part may have
 pub data Code : Type 0 where
@@ -109,7 +111,8 @@ IsToken lanes (row bytes) = length bytes ≡ lanes
 IsToken lanes (code c) = ⊤
 
 -- the machine reads these sets, and comes to these whole parts
-pub record Reads (enhanced : Bool) (lanes : ℕ) (sets : List (List Sym)) (whole : List Part) (place : Place) : Type 0 where
+pub record Reads (enhanced : Bool) (lanes : ℕ) (sets : List (List Sym)) (whole : List Part)
+    (place : Place) : Type 0 where
   pub tokens : List Token
   pub sets_are : map (token_set lanes) tokens ≡ sets
   pub uniform : AllByRecursion (IsToken lanes) tokens

@@ -1,8 +1,13 @@
-//! Which lists of sets a sink accepts, and what it receives of them: definitions and laws.
+//! Which lists of sets a sink accepts, and what it receives of them: definitions, and laws of them.
 //!
+//! * `specs/Parts.antt`: the parts that a list of sets is made of, and the periods that they form
+//! * `specs/Accepted.antt`: the four conditions, frames and tail; `specs/Gathered.antt`: the bytes of attributes
+//! * `specs/Machine.antt`: states that read exactly the prefixes of lists of periods, for proofs of a reader
 //! * `laws`: what holds of all accepted lists
 #![tactic(auto)]
 
 mod laws;
 
-pub use laws::{accepted_by_rules, default_has_no_bf, fronts_of_accepted, machine_reads_exactly, next_set_by_its_rule, next_set_keeps, next_set_may_come, one_reception, part_may_come, part_tells, row_has_id};
+pub use laws::{
+    default_has_no_bf, fronts_are_accepted, one_reception, states_read_exactly,
+};

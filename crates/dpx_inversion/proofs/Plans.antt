@@ -62,7 +62,8 @@ block_fits Two = omega arith
 block_fits Four = omega arith
 
 -- a header with attributes fits where the line has room for them
-pub attributes_fit : (l : Lanes) (s g : ℕ) → s + 22 ≤ g → 288 ≤ 8 * (lanes_count l * s) → 7 + 12 / lanes_count l + 36 / lanes_count l ≤ g
+pub attributes_fit : (l : Lanes) (s g : ℕ) → s + 22 ≤ g → 288 ≤ 8 * (lanes_count l * s)
+    → 7 + 12 / lanes_count l + 36 / lanes_count l ≤ g
 attributes_fit One s g h k = omega arith
 attributes_fit Two s g h k = omega arith
 attributes_fit Four s g h k = omega arith
@@ -77,7 +78,8 @@ unfolding head_at
 apart p line plan = omega (arith, start_gap (timing p) line (possible p plan))
 
 -- room for a header, and where the next line is active for that line
-pub room : (p : PlanFacts) (line : ℕ) (first active : Bool) → IsPlan p → begins_frame p line ≡ first → (first ≡ true → active ≡ false)
+pub room : (p : PlanFacts) (line : ℕ) (first active : Bool) → IsPlan p → begins_frame p line ≡ first
+    → (first ≡ true → active ≡ false)
     → header_length p line + (if active then line_end (timing p) + 1 else 0) ≤ gap (timing p)
 unfolding header_length
 room p line true true plan f not_both = absurd (different (not_both refl))
@@ -87,6 +89,10 @@ room p line true true plan f not_both = absurd (different (not_both refl))
 room p line true false plan f not_both =
     let h : (symbols (timing p) + 22 ≤ gap (timing p)) × (288 ≤ 8 * (lanes_count p.link.lanes * symbols (timing p))) =
     header_room (timing p) (possible p plan) plan.fits (omega (arith, plan.mode.width.0)) (bits_from p.mode.depth) in
-    rw f (omega (arith, (group_fits p.link).1, attributes_fit p.link.lanes (symbols (timing p)) (gap (timing p)) h.0 h.1))
-room p line false true plan f not_both = rw f (omega (arith, (group_fits p.link).1, block_fits p.link.lanes, plan.fits.room, delay_from (timing p) (possible p plan) plan.fits (bits_from p.mode.depth)))
-room p line false false plan f not_both = rw f (omega (arith, (group_fits p.link).1, block_fits p.link.lanes, plan.fits.room))
+    rw f (omega (arith, (group_fits p.link).1,
+        attributes_fit p.link.lanes (symbols (timing p)) (gap (timing p)) h.0 h.1))
+room p line false true plan f not_both = rw f
+    (omega (arith, (group_fits p.link).1, block_fits p.link.lanes, plan.fits.room,
+    delay_from (timing p) (possible p plan) plan.fits (bits_from p.mode.depth)))
+room p line false false plan f not_both = rw f
+    (omega (arith, (group_fits p.link).1, block_fits p.link.lanes, plan.fits.room))

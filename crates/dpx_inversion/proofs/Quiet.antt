@@ -3,7 +3,7 @@ use Rattle.std.proofs.Common.{ℕ, ◌≡◌, List, [], ◌∷◌, ◌++◌, ref
 use Rattle.std.specs.Prelude.{⊤}
 use Rattle.std.specs.List.{AllByRecursion}
 use Rattle.dpx_grammar.specs.Parts.{Part, group, block, filler, attributes, secondary, begins, valid, stuffing}
-use Rattle.dpx_grammar.specs.Accepted.{told_by, lines_of, valid_rows, is_ended, unfinished}
+use Rattle.dpx_grammar.specs.Accepted.{frame_parts, lines_of, valid_rows, is_ended, unfinished}
 
 abbrev pub IsQuiet : Part → Type 0
 IsQuiet (block rows) = ⊤
@@ -32,7 +32,7 @@ pub quiet_shown : (xs : List Part) → AllByRecursion IsShown xs → AllByRecurs
 quiet_shown [] h = tt
 quiet_shown (x ∷ xs) h = (quiet_one x h.0, quiet_shown xs h.1)
 
-pub told_quiet : (xs ys : List Part) → AllByRecursion IsQuiet xs → told_by (xs ++ ys) ≡ told_by ys
+pub told_quiet : (xs ys : List Part) → AllByRecursion IsQuiet xs → frame_parts (xs ++ ys) ≡ frame_parts ys
 told_quiet [] ys h = refl
 told_quiet (block rows ∷ xs) ys h = told_quiet xs ys h.1
 told_quiet (filler row ∷ xs) ys h = told_quiet xs ys h.1
@@ -54,7 +54,8 @@ lines_quiet (attributes rows ∷ xs) ys h = absurd h.0
 lines_quiet (secondary rows ∷ xs) ys h = absurd h.0
 lines_quiet (begins ∷ xs) ys h = absurd h.0
 
-pub unfinished_quiet : (enhanced : Bool) (lanes n : ℕ) (xs ys : List Part) → AllByRecursion IsQuiet xs → unfinished enhanced lanes (xs ++ ys) n ≡ unfinished enhanced lanes ys n
+pub unfinished_quiet : (enhanced : Bool) (lanes n : ℕ) (xs ys : List Part) → AllByRecursion IsQuiet xs
+    → unfinished enhanced lanes (xs ++ ys) n ≡ unfinished enhanced lanes ys n
 unfinished_quiet enhanced lanes n [] ys h = refl
 unfinished_quiet enhanced lanes n (block rows ∷ xs) ys h = unfinished_quiet enhanced lanes n xs ys h.1
 unfinished_quiet enhanced lanes n (filler row ∷ xs) ys h = unfinished_quiet enhanced lanes n xs ys h.1
@@ -72,7 +73,8 @@ ended_behind (valid row ∷ xs) ys h = ended_behind xs ys h.1
 ended_behind (stuffing rows ∷ xs) ys h = ended_behind xs ys h.1
 ended_behind (x ∷ xs) ys h = absurd h.0
 
-pub rows_shown : (xs ys : List Part) → AllByRecursion IsShown xs → valid_rows (xs ++ ys) ≡ valid_rows xs ++ valid_rows ys
+pub rows_shown : (xs ys : List Part) → AllByRecursion IsShown xs
+    → valid_rows (xs ++ ys) ≡ valid_rows xs ++ valid_rows ys
 rows_shown [] ys h = refl
 rows_shown (valid row ∷ xs) ys h = ap (λ zs. row ∷ zs) (rows_shown xs ys h.1)
 rows_shown (stuffing rows ∷ xs) ys h = rows_shown xs ys h.1

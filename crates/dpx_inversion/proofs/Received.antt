@@ -22,11 +22,13 @@ joined g w a (suc n) f h =
     ∙ ap (λ xs. map g (range_with_len (a * w) w) ++ xs) (joined g w (a + 1) n f h)
     ∙ sym (map_range_cut g (a * w) w (suc n * w) ((a + 1) * w) (n * w) e b)
 
-flat_of_map : {X Y : Type 0} (h : Y → List X) (k : ℕ → Y) (xs : List ℕ) → flat_map h (map k xs) ≡ flat_map (λ x. h (k x)) xs
+flat_of_map : {X Y : Type 0} (h : Y → List X) (k : ℕ → Y) (xs : List ℕ)
+    → flat_map h (map k xs) ≡ flat_map (λ x. h (k x)) xs
 flat_of_map h k [] = refl
 flat_of_map h k (x ∷ xs) = ap (λ ys. h (k x) ++ ys) (flat_of_map h k xs)
 
-flat_moved : {X : Type 0} (f : ℕ → List X) (a b n : ℕ) → flat_map (λ y. f (a + y)) (range_with_len b n) ≡ flat_map f (range_with_len (a + b) n)
+flat_moved : {X : Type 0} (f : ℕ → List X) (a b n : ℕ)
+    → flat_map (λ y. f (a + y)) (range_with_len b n) ≡ flat_map f (range_with_len (a + b) n)
 flat_moved f a b zero = refl
 flat_moved f a b (suc n) =
     let e : a + (b + 1) ≡ a + b + 1 = omega arith in
@@ -41,7 +43,8 @@ unfolding row_of_pixels pixel
 row_is p pixels y = sym (map_range_shift (pixel pixels) (y * p.mode.width) p.mode.width)
 
 frame_is : (p : PlanFacts) (pixels : List Pixel) (f : ℕ)
-    → flat_map (λ line. line) (map (λ y. row_of_pixels p pixels (f * p.mode.height + y)) (range_with_len 0 p.mode.height))
+    → flat_map (λ line. line) (map (λ y. row_of_pixels p pixels (f * p.mode.height + y))
+        (range_with_len 0 p.mode.height))
     ≡ map (pixel pixels) (range_with_len (f * (p.mode.height * p.mode.width)) (p.mode.height * p.mode.width))
 frame_is p pixels f =
     let z : f * p.mode.height + 0 ≡ f * p.mode.height = omega arith in
@@ -59,7 +62,8 @@ gives_back p pixels all =
     let n : p.frames * (p.mode.height * p.mode.width) ≡ p.frames * p.mode.height * p.mode.width = omega arith in
     flat_of_map (λ (frame : Frame). flat_map (λ line. line) frame.lines) (frame_of p pixels) (range_with_len 0 p.frames)
     ∙ joined (pixel pixels) (p.mode.height * p.mode.width) 0 p.frames
-    (λ f. flat_map (λ line. line) (map (λ y. row_of_pixels p pixels (f * p.mode.height + y)) (range_with_len 0 p.mode.height))) (frame_is p pixels)
+    (λ f. flat_map (λ line. line) (map (λ y. row_of_pixels p pixels (f * p.mode.height + y))
+        (range_with_len 0 p.mode.height))) (frame_is p pixels)
     ∙ ap (λ a. map (pixel pixels) (range_with_len a (p.frames * (p.mode.height * p.mode.width)))) z
     ∙ map_range_is (pixel pixels) 0 (p.frames * (p.mode.height * p.mode.width)) pixels black (all.count ∙ sym n)
     (λ i l. let e : 0 + i ≡ i = omega arith in ap (pixel pixels) e)
@@ -72,5 +76,6 @@ gives_back p pixels all =
 
 pub is_received : IsReceived
 is_received p pixels frames tail source all given =
-    let one = is_one p.link.enhanced p.link.lanes _ frames (sent_frames p pixels) tail 0 given (inverts p pixels source all) in
+    let one = is_one p.link.enhanced p.link.lanes _ frames (sent_frames p pixels) tail 0 given
+        (inverts p pixels source all) in
     (one.0, ap pixels_in one.0 ∙ gives_back p pixels all, one.1)

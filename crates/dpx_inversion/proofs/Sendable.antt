@@ -1,5 +1,6 @@
 -- Each of a source's sets has a symbol for each lane, and each symbol can be sent.
-use Rattle.std.proofs.Common.{ℕ, zero, suc, ◌+◌, ◌-◌, ◌*◌, ◌/◌, ◌%◌, ◌^◌, ◌<◌, ◌≤◌, ◌≡◌, ◌∙◌, Bool, true, false, List, [], ◌∷◌, ◌++◌, map, length, get_or, replicate, Some, None, refl, sym, ap, subst, arith}
+use Rattle.std.proofs.Common.{ℕ, zero, suc, ◌+◌, ◌-◌, ◌*◌, ◌/◌, ◌%◌, ◌^◌, ◌<◌, ◌≤◌, ◌≡◌, ◌∙◌, Bool, true, false, List}
+use Rattle.std.proofs.Common.{[], ◌∷◌, ◌++◌, map, length, get_or, replicate, Some, None, refl, sym, ap, subst, arith}
 use Rattle.std.specs.Prelude.{⊤, not, ◌&&◌}
 use Rattle.std.specs.List.{AllByRecursion, range_with_len, flat_map}
 use Rattle.std.proofs.lemmas.List.{append-nil, length-map, length-replicate}
@@ -20,9 +21,10 @@ use Rattle.dpx_base.specs.Rate.{rate_clock_khz}
 use Rattle.dpx_base.specs.Sets.{line_of, line_bytes, set_at, sets}
 use Rattle.dpx_base.specs.Slots.{is_active, begins_frame}
 use Rattle.dpx_base.specs.Symbols.{data_symbol, control_symbol, bs, be, sr, bf, ss, se, fs, fe}
-use Rattle.dpx_grammar.specs.Parts.{Part, group, block, filler, attributes, secondary, begins, valid, stuffing, sets_of, data_set, control_set}
+use Rattle.dpx_grammar.specs.Parts.{Part, group, block, filler, attributes, secondary, begins, valid, stuffing, sets_of}
+use Rattle.dpx_grammar.specs.Parts.{data_set, control_set}
 use Rattle.dpx_inversion.specs.Laws.{CanBeSent, is_control, IsSet, SetsCanBeSent}
-use Rattle.dpx_inversion.specs.Source.{lanes_of, zero_row, id_row, attribute_rows, head_at, IsTable}
+use Rattle.dpx_inversion.specs.Source.{plan_lanes, zero_row, id_row, attribute_rows, head_at, IsTable}
 use Rattle.dpx_grammar.proofs.Lists.{map_range_cut, all_append, all_map_range}
 use Rattle.dpx_inversion.proofs.Bits.{number_small}
 use Rattle.dpx_inversion.proofs.Packs.{line_small}
@@ -57,7 +59,8 @@ symbols_sent (b ∷ row) h = ((h.0, refl), symbols_sent row h.1)
 row_sent : (lanes : ℕ) (row : List ℕ) → Small lanes row → IsSet lanes (data_set row)
 row_sent lanes row h = (length-map row data_symbol ∙ h.0, symbols_sent row h.1)
 
-rows_sent : (lanes : ℕ) (rows : List (List ℕ)) → AllByRecursion (Small lanes) rows → AllByRecursion (IsSet lanes) (map data_set rows)
+rows_sent : (lanes : ℕ) (rows : List (List ℕ)) → AllByRecursion (Small lanes) rows
+    → AllByRecursion (IsSet lanes) (map data_set rows)
 rows_sent lanes [] h = tt
 rows_sent lanes (row ∷ rows) h = (row_sent lanes row h.0, rows_sent lanes rows h.1)
 
@@ -69,12 +72,15 @@ code_sent : (lanes code : ℕ) → code < 256 → is_control code ≡ true → I
 code_sent lanes code small known =
     (length-replicate lanes (control_symbol code), all_alike CanBeSent lanes (control_symbol code) (small, known))
 
-ended_sent : (lanes code : ℕ) (rows : List (List ℕ)) → AllByRecursion (Small lanes) rows → code < 256 → is_control code ≡ true
+ended_sent : (lanes code : ℕ) (rows : List (List ℕ)) → AllByRecursion (Small lanes) rows → code < 256
+    → is_control code ≡ true
     → AllByRecursion (IsSet lanes) (map data_set rows ++ control_set lanes code ∷ [])
 ended_sent lanes code rows h small known =
-    all_append (IsSet lanes) (map data_set rows) (control_set lanes code ∷ []) (rows_sent lanes rows h) (code_sent lanes code small known, tt)
+    all_append (IsSet lanes) (map data_set rows) (control_set lanes code ∷ []) (rows_sent lanes rows h)
+        (code_sent lanes code small known, tt)
 
-part_sent : (enhanced : Bool) (lanes : ℕ) (x : Part) → SmallPart lanes x → AllByRecursion (IsSet lanes) (sets_of enhanced lanes x)
+part_sent : (enhanced : Bool) (lanes : ℕ) (x : Part) → SmallPart lanes x
+    → AllByRecursion (IsSet lanes) (sets_of enhanced lanes x)
 part_sent true lanes (group true) h =
     let x : IsSet lanes (control_set lanes sr) = code_sent lanes sr (omega arith) refl in
     let f : IsSet lanes (control_set lanes bf) = code_sent lanes bf (omega arith) refl in
@@ -90,17 +96,20 @@ part_sent enhanced lanes (filler row) h = (row_sent lanes row h, tt)
 part_sent enhanced lanes (attributes rows) h =
     let x : IsSet lanes (control_set lanes ss) = code_sent lanes ss (omega arith) refl in
     (x, (x, ended_sent lanes se rows h (omega arith) refl))
-part_sent enhanced lanes (secondary rows) h = (code_sent lanes ss (omega arith) refl, ended_sent lanes se rows h (omega arith) refl)
+part_sent enhanced lanes (secondary rows) h =
+    (code_sent lanes ss (omega arith) refl, ended_sent lanes se rows h (omega arith) refl)
 part_sent enhanced lanes begins h = (code_sent lanes be (omega arith) refl, tt)
 part_sent enhanced lanes (valid row) h = (row_sent lanes row h, tt)
 part_sent enhanced lanes (stuffing None) h = (code_sent lanes fe (omega arith) refl, tt)
-part_sent enhanced lanes (stuffing (Some rows)) h = (code_sent lanes fs (omega arith) refl, ended_sent lanes fe rows h (omega arith) refl)
+part_sent enhanced lanes (stuffing (Some rows)) h =
+    (code_sent lanes fs (omega arith) refl, ended_sent lanes fe rows h (omega arith) refl)
 
 parts_sent : (enhanced : Bool) (lanes : ℕ) (xs : List Part) → AllByRecursion (SmallPart lanes) xs
     → AllByRecursion (IsSet lanes) (flat_map (sets_of enhanced lanes) xs)
 parts_sent enhanced lanes [] h = tt
 parts_sent enhanced lanes (x ∷ xs) h =
-    all_append (IsSet lanes) (sets_of enhanced lanes x) (flat_map (sets_of enhanced lanes) xs) (part_sent enhanced lanes x h.0) (parts_sent enhanced lanes xs h.1)
+    all_append (IsSet lanes) (sets_of enhanced lanes x) (flat_map (sets_of enhanced lanes) xs)
+        (part_sent enhanced lanes x h.0) (parts_sent enhanced lanes xs h.1)
 
 -- ---- a source's rows are bytes
 
@@ -109,21 +118,24 @@ byte_at [] k h = omega arith
 byte_at (b ∷ bytes) zero h = h.0
 byte_at (b ∷ bytes) (suc k) h = byte_at bytes k h.1
 
-zero_small : (p : PlanFacts) → Small (lanes_of p) (zero_row p)
+zero_small : (p : PlanFacts) → Small (plan_lanes p) (zero_row p)
 unfolding zero_row
-zero_small p = (length-replicate (lanes_of p) 0, all_alike (λ byte. byte < 256) (lanes_of p) 0 (omega arith))
+zero_small p = (length-replicate (plan_lanes p) 0, all_alike (λ byte. byte < 256) (plan_lanes p) 0 (omega arith))
 
 block_small : (m : ModeFacts) (blank : Bool) (i : ℕ) → block_byte m blank i < 256
-block_small m true i = byte_at (vb_id true ∷ m.clock_khz % 256 ∷ 0 ∷ []) (i % 3) (omega arith, (omega arith, (omega arith, tt)))
-block_small m false i = byte_at (vb_id false ∷ m.clock_khz % 256 ∷ 0 ∷ []) (i % 3) (omega arith, (omega arith, (omega arith, tt)))
+block_small m true i = byte_at (vb_id true ∷ m.clock_khz % 256 ∷ 0 ∷ []) (i % 3)
+    (omega arith, (omega arith, (omega arith, tt)))
+block_small m false i = byte_at (vb_id false ∷ m.clock_khz % 256 ∷ 0 ∷ []) (i % 3)
+    (omega arith, (omega arith, (omega arith, tt)))
 
-id_small : (p : PlanFacts) (line : ℕ) → AllByRecursion (Small (lanes_of p)) (id_rows p line)
+id_small : (p : PlanFacts) (line : ℕ) → AllByRecursion (Small (plan_lanes p)) (id_rows p line)
 unfolding id_rows id_row
 id_small p line =
-    all_map_range (Small (lanes_of p)) (id_row p line) 0 (12 / lanes_of p)
+    all_map_range (Small (plan_lanes p)) (id_row p line) 0 (12 / plan_lanes p)
     (λ i l. (
-      length-replicate (lanes_of p) (block_byte p.mode (not (is_active p line && is_active p (line + 1))) (0 + i)),
-      all_alike (λ byte. byte < 256) (lanes_of p) (block_byte p.mode (not (is_active p line && is_active p (line + 1))) (0 + i))
+      length-replicate (plan_lanes p) (block_byte p.mode (not (is_active p line && is_active p (line + 1))) (0 + i)),
+      all_alike (λ byte. byte < 256) (plan_lanes p)
+          (block_byte p.mode (not (is_active p line && is_active p (line + 1))) (0 + i))
           (block_small p.mode (not (is_active p line && is_active p (line + 1))) (0 + i)),
     ))
 
@@ -217,7 +229,8 @@ bytes_small m link legal =
                                                         z,
                                                         (
                                                           z,
-                                                          (c.0, (c.1, (c.2, (r.0, (r.1, (r.2, (misc_small m.depth, (z, (z, tt))))))))),
+                                                          (c.0, (c.1, (c.2, (r.0,
+                                                              (r.1, (r.2, (misc_small m.depth, (z, (z, tt))))))))),
                                                         ),
                                                       ),
                                                     ),
@@ -246,16 +259,20 @@ bytes_small m link legal =
       ),
     )
 
-attributes_small : (p : PlanFacts) → IsPlan p → AllByRecursion (Small (lanes_of p)) (attribute_rows p)
+attributes_small : (p : PlanFacts) → IsPlan p → AllByRecursion (Small (plan_lanes p)) (attribute_rows p)
 unfolding attribute_rows
 attributes_small p plan =
-    all_map_range (Small (lanes_of p))
-    (λ index. map (λ lane. get_or (attributes_bytes p.mode p.link) (column_symbol p.link.lanes lane index) 0) (range_with_len 0 (lanes_of p)))
-    0 (36 / lanes_of p)
+    all_map_range (Small (plan_lanes p))
+    (λ index. map (λ lane. get_or (attributes_bytes p.mode p.link) (column_symbol p.link.lanes lane index) 0)
+        (range_with_len 0 (plan_lanes p)))
+    0 (36 / plan_lanes p)
     (λ i l. (
-      length-map-range_with_len (λ lane. get_or (attributes_bytes p.mode p.link) (column_symbol p.link.lanes lane (0 + i)) 0) 0 (lanes_of p),
-      all_map_range (λ byte. byte < 256) (λ lane. get_or (attributes_bytes p.mode p.link) (column_symbol p.link.lanes lane (0 + i)) 0) 0 (lanes_of p)
-          (λ k h. byte_at (attributes_bytes p.mode p.link) (column_symbol p.link.lanes (0 + k) (0 + i)) (bytes_small p.mode p.link plan.mode)),
+      length-map-range_with_len (λ lane. get_or (attributes_bytes p.mode p.link)
+          (column_symbol p.link.lanes lane (0 + i)) 0) 0 (plan_lanes p),
+      all_map_range (λ byte. byte < 256) (λ lane. get_or (attributes_bytes p.mode p.link)
+          (column_symbol p.link.lanes lane (0 + i)) 0) 0 (plan_lanes p)
+          (λ k h. byte_at (attributes_bytes p.mode p.link) (column_symbol p.link.lanes (0 + k) (0 + i))
+              (bytes_small p.mode p.link plan.mode)),
     ))
 
 byte_small : (line : Line) (lane j : ℕ) → line_byte line lane j < 256
@@ -264,41 +281,47 @@ byte_small line lane j =
     let e : 2 ^ 8 ≡ 256 = refl in
     omega (arith, number_small (line_bit line lane) (8 * j) 8 (line_small line lane))
 
-line_row_small : (p : PlanFacts) (pixels : List Pixel) (line j : ℕ) → Small (lanes_of p) (line_bytes p pixels line j)
+line_row_small : (p : PlanFacts) (pixels : List Pixel) (line j : ℕ) → Small (plan_lanes p) (line_bytes p pixels line j)
 line_row_small p pixels line j = (
   bytes_length p pixels line j,
-  all_map_range (λ byte. byte < 256) (λ lane. line_byte (line_of p pixels line) lane j) 0 (lanes_of p)
+  all_map_range (λ byte. byte < 256) (λ lane. line_byte (line_of p pixels line) lane j) 0 (plan_lanes p)
       (λ i l. byte_small (line_of p pixels line) (0 + i) j),
 )
 
 -- ---- a source's parts
 
-fillers_small : (p : PlanFacts) (n : ℕ) → AllByRecursion (SmallPart (lanes_of p)) (replicate n (filler (zero_row p)))
-fillers_small p n = all_alike (SmallPart (lanes_of p)) n (filler (zero_row p)) (zero_small p)
+fillers_small : (p : PlanFacts) (n : ℕ) → AllByRecursion (SmallPart (plan_lanes p)) (replicate n (filler (zero_row p)))
+fillers_small p n = all_alike (SmallPart (plan_lanes p)) n (filler (zero_row p)) (zero_small p)
 
-blank_small : (p : PlanFacts) (first : Bool) (n : ℕ) → IsPlan p → AllByRecursion (SmallPart (lanes_of p)) (blank_of p first n)
+blank_small : (p : PlanFacts) (first : Bool) (n : ℕ) → IsPlan p
+    → AllByRecursion (SmallPart (plan_lanes p)) (blank_of p first n)
 unfolding blank_of
 blank_small p true n plan = (attributes_small p plan, fillers_small p n)
 blank_small p false n plan = fillers_small p n
 
-active_small : (p : PlanFacts) (pixels : List Pixel) (line : ℕ) (active : Bool) → AllByRecursion (SmallPart (lanes_of p)) (active_of p pixels line active)
+active_small : (p : PlanFacts) (pixels : List Pixel) (line : ℕ) (active : Bool)
+    → AllByRecursion (SmallPart (plan_lanes p)) (active_of p pixels line active)
 unfolding active_of
 active_small p pixels line true = (
   tt,
-  line_all (SmallPart (lanes_of p)) (timing p) (line_bytes p pixels line) (zero_row p) (line_row_small p pixels line) tt
-      (λ n. all_alike (Small (lanes_of p)) n (zero_row p) (zero_small p)),
+  line_all (SmallPart (plan_lanes p)) (timing p) (line_bytes p pixels line) (zero_row p)
+      (line_row_small p pixels line) tt
+      (λ n. all_alike (Small (plan_lanes p)) n (zero_row p) (zero_small p)),
 )
 active_small p pixels line false = tt
 
-from_small : (p : PlanFacts) (pixels : List Pixel) (a n : ℕ) → IsPlan p → AllByRecursion (SmallPart (lanes_of p)) (from p pixels a n)
+from_small : (p : PlanFacts) (pixels : List Pixel) (a n : ℕ) → IsPlan p
+    → AllByRecursion (SmallPart (plan_lanes p)) (from p pixels a n)
 unfolding from period
 from_small p pixels a zero plan = (tt, (id_small p a, tt))
 from_small p pixels a (suc n) plan = (
   tt,
   (
     id_small p a,
-    all_append (SmallPart (lanes_of p)) (blank_of p (begins_frame p a) (spare p a) ++ active_of p pixels (a + 1) (is_active p (a + 1))) (from p pixels (a + 1) n)
-        (all_append (SmallPart (lanes_of p)) (blank_of p (begins_frame p a) (spare p a)) (active_of p pixels (a + 1) (is_active p (a + 1)))
+    all_append (SmallPart (plan_lanes p)) (blank_of p (begins_frame p a) (spare p a) ++ active_of p pixels (a + 1)
+        (is_active p (a + 1))) (from p pixels (a + 1) n)
+        (all_append (SmallPart (plan_lanes p)) (blank_of p (begins_frame p a) (spare p a))
+            (active_of p pixels (a + 1) (is_active p (a + 1)))
         (blank_small p (begins_frame p a) (spare p a) plan) (active_small p pixels (a + 1) (is_active p (a + 1))))
         (from_small p pixels (a + 1) n plan),
   ),
@@ -307,6 +330,7 @@ from_small p pixels a (suc n) plan = (
 -- ---- all its sets
 
 pub sets_can_be_sent : SetsCanBeSent
+unfolding head_at
 sets_can_be_sent p pixels plan =
     let at : ℕ → List Sym = set_at p pixels in
     let h : ℕ = head_at p 0 in
@@ -314,14 +338,20 @@ sets_can_be_sent p pixels plan =
     let some : 1 ≤ lines p = omega (arith, mul-le-mul plan.frames.0 plan.mode.vtotal.0) in
     let table : IsTable p pixels (set_at p pixels) = is_table p pixels plan in
     let before : map (set_at p pixels) (range_with_len 0 h) ≡ map data_set (replicate h (zero_row p)) =
-    constant (set_at p pixels) 0 h (zero_row p) (λ i l. let z : 0 + i ≡ i = omega arith in rw z ((starts_at_sr p pixels plan).0 i l)) in
-    let behind : map (set_at p pixels) (range_with_len h (clocks p - h)) ≡ flat_map (sets_of p.link.enhanced (lanes_of p)) (from p pixels 0 n) =
-    (is_cut p pixels (set_at p pixels) n plan table (omega arith)).joined ∙ append-nil (flat_map (sets_of p.link.enhanced (lanes_of p)) (from p pixels 0 n)) in
-    let all : sets p pixels ≡ map data_set (replicate h (zero_row p)) ++ flat_map (sets_of p.link.enhanced (lanes_of p)) (from p pixels 0 n) =
+    constant (set_at p pixels) 0 h (zero_row p)
+        (λ i l. let z : 0 + i ≡ i = omega arith in rw z ((starts_at_sr p pixels plan).0 i l)) in
+    let behind : map (set_at p pixels) (range_with_len h (clocks p - h))
+        ≡ flat_map (sets_of p.link.enhanced (plan_lanes p)) (from p pixels 0 n) =
+    (is_cut p pixels (set_at p pixels) n plan table (omega arith)).joined
+        ∙ append-nil (flat_map (sets_of p.link.enhanced (plan_lanes p)) (from p pixels 0 n)) in
+    let all : sets p pixels ≡ map data_set (replicate h (zero_row p)) ++ flat_map
+        (sets_of p.link.enhanced (plan_lanes p)) (from p pixels 0 n) =
     map_range_cut (set_at p pixels) 0 h (clocks p) h (clocks p - h) (omega (arith, first_clock p plan)) (omega arith)
     ∙ ap (λ xs. xs ++ map (set_at p pixels) (range_with_len h (clocks p - h))) before
     ∙ ap (λ xs. map data_set (replicate h (zero_row p)) ++ xs) behind in
-    subst (λ xs. AllByRecursion (IsSet (lanes_of p)) xs) (sym all)
-    (all_append (IsSet (lanes_of p)) (map data_set (replicate h (zero_row p))) (flat_map (sets_of p.link.enhanced (lanes_of p)) (from p pixels 0 n))
-    (rows_sent (lanes_of p) (replicate h (zero_row p)) (all_alike (Small (lanes_of p)) h (zero_row p) (zero_small p)))
-    (parts_sent p.link.enhanced (lanes_of p) (from p pixels 0 n) (from_small p pixels 0 n plan)))
+    subst (λ xs. AllByRecursion (IsSet (plan_lanes p)) xs) (sym all)
+    (all_append (IsSet (plan_lanes p)) (map data_set (replicate h (zero_row p)))
+        (flat_map (sets_of p.link.enhanced (plan_lanes p)) (from p pixels 0 n))
+    (rows_sent (plan_lanes p) (replicate h (zero_row p))
+        (all_alike (Small (plan_lanes p)) h (zero_row p) (zero_small p)))
+    (parts_sent p.link.enhanced (plan_lanes p) (from p pixels 0 n) (from_small p pixels 0 n plan)))

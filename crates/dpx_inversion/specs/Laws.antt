@@ -1,5 +1,6 @@
 -- What a source sends is received.
-use Rattle.std.specs.Prelude.{ℕ, Bool, true, false, not, ◌==◌, ◌||◌, ◌≢◌, replicate, ◌≡◌, ◌<◌, ◌+◌, ◌-◌, ◌*◌, ◌++◌, List, map, drop, length, slice_index_or}
+use Rattle.std.specs.Prelude.{ℕ, Bool, true, false, not, ◌==◌, ◌||◌, ◌≢◌, replicate, ◌≡◌, ◌<◌, ◌+◌, ◌-◌, ◌*◌, ◌++◌}
+use Rattle.std.specs.Prelude.{List, map, drop, length, slice_index_or}
 use Rattle.std.specs.List.{AllByRecursion, range_with_len, flat_map}
 use Rattle.dpx_base.specs.declared.pixel.Pixel.{Pixel}
 use Rattle.dpx_base.specs.declared.sym.Sym.{Sym}
@@ -12,7 +13,8 @@ use Rattle.dpx_base.specs.Symbols.{control_symbol, cp, bs, be, sr, bf, ss, se, f
 use Rattle.dpx_grammar.specs.Parts.{data_set, control_set, group_sets}
 use Rattle.dpx_msa.specs.Reading.{attributes_of}
 use Rattle.dpx_base.specs.Unpacking.{InRange}
-use Rattle.dpx_inversion.specs.Source.{IsTable, lanes_of, zero_row, head_at}
+use Rattle.dpx_base.specs.Slots.{header_start}
+use Rattle.dpx_inversion.specs.Source.{plan_lanes, zero_row}
 use Rattle.dpx_grammar.specs.Accepted.{Frame, Receives, IsAccepted}
 
 -- line y of all lines that have pixels
@@ -36,13 +38,7 @@ pub record AreWhole (p : PlanFacts) (pixels : List Pixel) : Type 0 where
 abbrev pub Inverts : Type 0
 Inverts =
     (p : PlanFacts) (pixels : List Pixel) → IsPlan p → AreWhole p pixels
-    → Receives p.link.enhanced (lanes_of p) (drop (head_at p 0) (sets p pixels)) (sent_frames p pixels) 0
-
--- the same of whatever sets the table gives
-abbrev pub InvertsTable : Type 0
-InvertsTable =
-    (p : PlanFacts) (pixels : List Pixel) (at : ℕ → List Sym) → IsPlan p → AreWhole p pixels → IsTable p pixels at
-    → Receives p.link.enhanced (lanes_of p) (map at (range_with_len (head_at p 0) (clocks p - head_at p 0))) (sent_frames p pixels) 0
+    → Receives p.link.enhanced (plan_lanes p) (drop (header_start p 0) (sets p pixels)) (sent_frames p pixels) 0
 
 -- the pixels of frames, line by line
 abbrev pub pixels_in : List Frame → List Pixel
@@ -52,27 +48,29 @@ pixels_in frames = flat_map (λ frame. flat_map (λ line. line) frame.lines) fra
 abbrev pub IsReceived : Type 0
 IsReceived =
     (p : PlanFacts) (pixels : List Pixel) (frames : List Frame) (tail : ℕ) → IsPlan p → AreWhole p pixels
-    → Receives p.link.enhanced (lanes_of p) (drop (head_at p 0) (sets p pixels)) frames tail
+    → Receives p.link.enhanced (plan_lanes p) (drop (header_start p 0) (sets p pixels)) frames tail
     → (frames ≡ sent_frames p pixels) × (pixels_in frames ≡ pixels) × (tail ≡ 0)
 
 -- Before the first header a source sends zeros, and the header begins with SR: so its first SR stands there.
 abbrev pub StartsAtSr : Type 0
 StartsAtSr =
     (p : PlanFacts) (pixels : List Pixel) → IsPlan p
-    → ((t : ℕ) → t < head_at p 0 → set_at p pixels t ≡ data_set (zero_row p))
-    × (set_at p pixels (head_at p 0) ≡ control_set (lanes_of p) sr)
+    → ((t : ℕ) → t < header_start p 0 → set_at p pixels t ≡ data_set (zero_row p))
+    × (set_at p pixels (header_start p 0) ≡ control_set (plan_lanes p) sr)
 
 -- And so its sets are zeros, then the first header's whole group, which has SR, and the rest.
 abbrev pub StartsWithGroup : Type 0
 StartsWithGroup =
     (p : PlanFacts) (pixels : List Pixel) → IsPlan p
     → (rest : List (List Sym))
-    × (sets p pixels ≡ map data_set (replicate (head_at p 0) (zero_row p)) ++ (group_sets p.link.enhanced (lanes_of p) sr ++ rest))
+    × (sets p pixels ≡ map data_set (replicate (header_start p 0) (zero_row p)) ++
+        (group_sets p.link.enhanced (plan_lanes p) sr ++ rest))
 
 -- the nine control symbols
 abbrev pub is_control : ℕ → Bool
 is_control byte =
-    byte == bs || byte == be || byte == sr || byte == bf || byte == ss || byte == se || byte == fs || byte == fe || byte == cp
+    byte == bs || byte == be || byte == sr || byte == bf || byte == ss || byte == se || byte == fs || byte ==
+        fe || byte == cp
 
 -- a data symbol of a byte, or one of the nine
 abbrev pub CanBeSent : Sym → Type 0
@@ -84,4 +82,4 @@ IsSet lanes set = (length set ≡ lanes) × AllByRecursion CanBeSent set
 
 -- Each of a source's sets has a symbol for each lane, and each symbol can be sent.
 abbrev pub SetsCanBeSent : Type 0
-SetsCanBeSent = (p : PlanFacts) (pixels : List Pixel) → IsPlan p → AllByRecursion (IsSet (lanes_of p)) (sets p pixels)
+SetsCanBeSent = (p : PlanFacts) (pixels : List Pixel) → IsPlan p → AllByRecursion (IsSet (plan_lanes p)) (sets p pixels)

@@ -1,9 +1,4 @@
-ghost use Rattle.dpx_inversion.specs.Laws.{Inverts, InvertsTable, IsReceived, SetsCanBeSent, StartsAtSr, StartsWithGroup};
-
-/// What the table of a source's sets gives from the first header on is accepted, and gives back the frames.
-pub fn table_inverts()
-    ensures { InvertsTable }
-{}
+ghost use Rattle.dpx_inversion.specs.Laws.{Inverts, IsReceived, SetsCanBeSent, StartsAtSr, StartsWithGroup};
 
 /// The sets of a plan that fits and of exactly its pixels, from the first SR on, are accepted and give back the
 /// frames.

@@ -1,5 +1,6 @@
 -- Attributes that have a reading are small.
-use Rattle.std.proofs.Common.{ℕ, ◌/◌, ◌%◌, ◌*◌, ◌≤◌, ◌≡◌, List, Bool, true, false, Option, Some, None, Ok, Err, refl, ap, subst, arith}
+use Rattle.std.proofs.Common.{ℕ, ◌/◌, ◌%◌, ◌*◌, ◌≤◌, ◌≡◌, List, Bool, true, false, Option, Some, None, Ok, Err, refl}
+use Rattle.std.proofs.Common.{ap, subst, arith}
 use Rattle.std.specs.Prelude.{Result, nat_le, not, ◌&&◌, ◌==◌, if◌then◌else◌, slice_index}
 use Rattle.std.specs.Result.{result_ok}
 use Rattle.dpx_base.specs.declared.depth.Depth.{Depth}
@@ -30,12 +31,14 @@ below m n h = grind arith
 
 small_sizes : (b : List ℕ) (d : Depth) (a : Attributes) → read_sizes b d ≡ Ok a → AreSmall a
 small_sizes b d a e =
-    go (slice_index b 34 == 0) (nat_le 16 (two_at b 21)) (nat_le (two_at b 21) 8192) (nat_le 1 (two_at b 23)) (nat_le (two_at b 23) 8192) (three_at b 30 == 0)
+    go (slice_index b 34 == 0) (nat_le 16 (two_at b 21)) (nat_le (two_at b 21) 8192) (nat_le 1 (two_at b 23))
+        (nat_le (two_at b 23) 8192) (three_at b 30 == 0)
     refl refl e
   where
     go : (p w x h y z : Bool) → nat_le (two_at b 21) 8192 ≡ x → nat_le (two_at b 23) 8192 ≡ y
         → (if not p then Err (Misc1 (slice_index b 34)) else (if not (w && x) then Err (Width (two_at b 21))
-        else (if not (h && y) then Err (Height (two_at b 23)) else (if z then Err NvidZero else Ok (attributes_at b d))))) ≡ Ok a
+        else (if not (h && y) then Err (Height (two_at b 23)) else
+            (if z then Err NvidZero else Ok (attributes_at b d))))) ≡ Ok a
         → AreSmall a
     go false w x h y z ex ey e = absurd (no_ok _ a e)
     go true false x h y z ex ey e = absurd (no_ok _ a e)
@@ -53,7 +56,8 @@ small_depth b (Some d) a e = small_sizes b d a e
 small : (b : List ℕ) (a : Attributes) → reading b ≡ Ok a → AreSmall a
 small b a e = go (slice_index b 33 / 2 % 4 == 0) e
   where
-    go : (p : Bool) → (if not p then Err (Colour (slice_index b 33)) else with_depth b (depth_coded (slice_index b 33 / 32))) ≡ Ok a → AreSmall a
+    go : (p : Bool) → (if not p then Err (Colour (slice_index b 33)) else with_depth b
+        (depth_coded (slice_index b 33 / 32))) ≡ Ok a → AreSmall a
     go false e = absurd (no_ok _ a e)
     go true e = small_depth b (depth_coded (slice_index b 33 / 32)) a e
 
@@ -82,5 +86,6 @@ length_small l a h = go l a.depth
     go Four Twelve = omega (arith, h)
     go Four Sixteen = omega (arith, h)
 
-pub small_read : (l : Lanes) (b : List ℕ) (a : Attributes) → result_ok (reading b) ≡ Some a → (a.height ≤ 8192) × (line_length (lanes_count l) a ≤ 65536)
+pub small_read : (l : Lanes) (b : List ℕ) (a : Attributes) → result_ok (reading b) ≡ Some a
+    → (a.height ≤ 8192) × (line_length (lanes_count l) a ≤ 65536)
 small_read l b a e = let s = small b a (read_is (reading b) a e) in (s.1, length_small l a s.0)

@@ -24,11 +24,13 @@ pub record CutRead (e : Bool) (l : Lanes) (sets : List (List Sym)) (whole : List
   pub reads : Reads e (lanes_count l) sets whole place
   pub begun_is : begun_of place ≡ begun next front
 
-pub cut_read : (l : Lanes) (e : Bool) (sets : List (List Sym)) (whole : List Part) (next : Part) (front : List (List Sym))
+pub cut_read : (l : Lanes) (e : Bool) (sets : List (List Sym)) (whole : List Part) (next : Part)
+    (front : List (List Sym))
     → IsCut e (lanes_count l) sets whole next front → CutRead e l sets whole next front
 cut_read l e sets whole next front c =
     let b = blocks l in
-    let r : IsRun e (lanes_count l) b.0 sets whole next front = cut_runs e (lanes_count l) b.0 sets whole next front b.1 c in
+    let r : IsRun e (lanes_count l) b.0 sets whole next front =
+        cut_runs e (lanes_count l) b.0 sets whole next front b.1 c in
     record {
       place = r.place;
       reads = record {
@@ -42,7 +44,8 @@ cut_read l e sets whole next front c =
 
 -- a prefix of the sets that were read has their whole parts and their place
 pub cut_is : (l : Lanes) (e : Bool) (sets : List (List Sym)) (whole others : List Part) (place : Place) (next : Part)
-    (front : List (List Sym)) → Reads e (lanes_count l) sets whole place → IsCut e (lanes_count l) sets others next front
+    (front : List (List Sym)) → Reads e (lanes_count l) sets whole place
+        → IsCut e (lanes_count l) sets others next front
     → (others ≡ whole) × (begun_of place ≡ begun next front)
 cut_is l e sets whole others place next front r c =
     let q : CutRead e l sets others next front = cut_read l e sets others next front c in

@@ -1,14 +1,17 @@
 -- The machine's table is that of the reading part by part.
-use Rattle.std.proofs.Common.{ℕ, zero, suc, ◌%◌, ◌≤◌, ◌≡◌, List, [], ◌∷◌, Bool, true, false, Option, Some, None, refl, arith}
+use Rattle.std.proofs.Common.{ℕ, zero, suc, ◌%◌, ◌≤◌, ◌≡◌, List, [], ◌∷◌, Bool, true, false, Option, Some, None, refl}
+use Rattle.std.proofs.Common.{arith}
 use Rattle.std.specs.Prelude.{⊤, ◌==◌, ◌-◌, nat_le, if◌then◌else◌}
 use Rattle.dpx_grammar.specs.Parts.{Part, group}
-use Rattle.dpx_grammar.specs.Machine.{Code, a_bs, a_sr, a_be, an_ss, an_se, an_fs, an_fe, a_bf, Token, row, code, Place, start, head, ids, blank, opened, numbers, packet, active, fill, step}
+use Rattle.dpx_grammar.specs.Machine.{Code, a_bs, a_sr, a_be, an_ss, an_se, an_fs, an_fe, a_bf, Token, row, code, Place}
+use Rattle.dpx_grammar.specs.Machine.{start, head, ids, blank, opened, numbers, packet, active, fill, step}
 use Rattle.dpx_parse.specs.State.{next, in_ids, in_numbers}
 use Rattle.dpx_parse.specs.Stands.{state_of}
 use Rattle.dpx_parse.specs.declared.kind.Kind.{Kind}
 use Rattle.dpx_parse.specs.declared.kind.Kind.TheVariants.{Data, Bs, Sr, Be, Ss, Se, Fs, Fe, Bf}
 use Rattle.dpx_parse.specs.declared.state.Mark.{Mark}
-use Rattle.dpx_parse.specs.declared.state.Mark.TheVariants.{Head, Id, Opens, Number, AttributesEnd, Begins, Valid, Other}
+use Rattle.dpx_parse.specs.declared.state.Mark.TheVariants.{Head, Id, Opens, Number, AttributesEnd, Begins, Valid}
+use Rattle.dpx_parse.specs.declared.state.Mark.TheVariants.{Other}
 
 abbrev pub code_kind : Code → Kind
 code_kind a_bs = Bs
@@ -47,7 +50,8 @@ abbrev pub Same : (e : Bool) (b a : ℕ) → Place → Token → Option (Option 
 Same e b a s t None = next e b a (state_of s) (token_kind t) ≡ None
 Same e b a s t (Some to) = next e b a (state_of s) (token_kind t) ≡ Some (mark_at s t, state_of to.1)
 
-head_same : (e : Bool) (b a : ℕ) (reset : Bool) (n : ℕ) (t : Token) → 1 ≤ n → n ≤ 3 → Same e b a (head reset n) t (step e b a (head reset n) t)
+head_same : (e : Bool) (b a : ℕ) (reset : Bool) (n : ℕ) (t : Token) → 1 ≤ n → n ≤ 3
+    → Same e b a (head reset n) t (step e b a (head reset n) t)
 head_same e b a reset zero t l h = absurd (omega arith)
 head_same e b a reset (suc zero) (code a_bf) l h = refl
 head_same e b a true (suc zero) t l h = refl

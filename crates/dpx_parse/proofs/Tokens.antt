@@ -1,9 +1,11 @@
 -- A set whose lanes carry the same is a token.
-use Rattle.std.proofs.Common.{ℕ, zero, suc, ◌≤◌, ◌≡◌, ◌≢◌, ◌∙◌, List, [], ◌∷◌, Bool, true, false, Option, Some, None, length, refl, sym, ap, subst, arith, inl, inr}
+use Rattle.std.proofs.Common.{ℕ, zero, suc, ◌≤◌, ◌≡◌, ◌≢◌, ◌∙◌, List, [], ◌∷◌, Bool, true, false, Option, Some, None}
+use Rattle.std.proofs.Common.{length, refl, sym, ap, subst, arith, inl, inr}
 use Rattle.std.specs.Prelude.{⊤, ◌==◌, ◌&&◌, ◌||◌, not, if◌then◌else◌}
 use Rattle.dpx_base.specs.declared.sym.Sym.{Sym}
 use Rattle.dpx_base.specs.Symbols.{data_symbol, control_symbol}
-use Rattle.dpx_grammar.specs.Machine.{Code, a_bs, a_sr, a_be, an_ss, an_se, an_fs, an_fe, a_bf, byte_of, Token, row, code, token_set, IsToken}
+use Rattle.dpx_grammar.specs.Machine.{Code, a_bs, a_sr, a_be, an_ss, an_se, an_fs, an_fe, a_bf, byte_of, Token, row}
+use Rattle.dpx_grammar.specs.Machine.{code, token_set, IsToken}
 use Rattle.dpx_grammar.specs.Parts.{data_set, control_set}
 use Rattle.dpx_base.specs.Symbols.{cp}
 use Rattle.dpx_parse.specs.FirstFault.{IsUniform}
@@ -105,8 +107,10 @@ pick n c k rest f g = go (n == c) refl
 
 pub byte_is : (n : ℕ) → IsByte (control_kind n) n
 byte_is n =
-    pick n 0xbc Bs _ (λ e. e) (pick n 0x1c Sr _ (λ e. e) (pick n 0xfb Be _ (λ e. e) (pick n 0x5c Ss _ (λ e. e) (pick n 0xfd Se _ (λ e. e)
-    (pick n 0xfe Fs _ (λ e. e) (pick n 0xf7 Fe _ (λ e. e) (pick n 0x7c Bf _ (λ e. e) (pick n 0x3c Cp Other (λ e. e) tt))))))))
+    pick n 0xbc Bs _ (λ e. e) (pick n 0x1c Sr _ (λ e. e)
+        (pick n 0xfb Be _ (λ e. e) (pick n 0x5c Ss _ (λ e. e) (pick n 0xfd Se _ (λ e. e)
+    (pick n 0xfe Fs _ (λ e. e) (pick n 0xf7 Fe _ (λ e. e)
+        (pick n 0x7c Bf _ (λ e. e) (pick n 0x3c Cp Other (λ e. e) tt))))))))
 
 abbrev IsControl : Kind → Type 0
 IsControl Data = ⊥
@@ -118,8 +122,10 @@ choose false k rest f g = g
 
 is_control : (n : ℕ) → IsControl (control_kind n)
 is_control n =
-    choose (n == 0xbc) Bs _ tt (choose (n == 0x1c) Sr _ tt (choose (n == 0xfb) Be _ tt (choose (n == 0x5c) Ss _ tt (choose (n == 0xfd) Se _ tt
-    (choose (n == 0xfe) Fs _ tt (choose (n == 0xf7) Fe _ tt (choose (n == 0x7c) Bf _ tt (choose (n == 0x3c) Cp Other tt tt))))))))
+    choose (n == 0xbc) Bs _ tt (choose (n == 0x1c) Sr _ tt
+        (choose (n == 0xfb) Be _ tt (choose (n == 0x5c) Ss _ tt (choose (n == 0xfd) Se _ tt
+    (choose (n == 0xfe) Fs _ tt (choose (n == 0xf7) Fe _ tt
+        (choose (n == 0x7c) Bf _ tt (choose (n == 0x3c) Cp Other tt tt))))))))
 
 -- a token of this set
 pub record IsTokenOf (n : ℕ) (set : List Sym) (k : Kind) : Type 0 where
@@ -128,10 +134,13 @@ pub record IsTokenOf (n : ℕ) (set : List Sym) (k : Kind) : Type 0 where
   pub good : IsToken n token
   pub kind : token_kind token ≡ k
 
-code_token : (n byte : ℕ) (set : List Sym) (c : Code) (k : Kind) → control_set n byte ≡ set → byte ≡ byte_of c → code_kind c ≡ k → IsTokenOf n set k
-code_token n byte set c k e f g = record { token = code c; sets = ap (λ b. control_set n b) (sym f) ∙ e; good = tt; kind = g }
+code_token : (n byte : ℕ) (set : List Sym) (c : Code) (k : Kind) → control_set n byte ≡ set → byte ≡ byte_of c
+    → code_kind c ≡ k → IsTokenOf n set k
+code_token n byte set c k e f g = record { token = code c; sets = ap (λ b. control_set n b) (sym f) ∙ e; good = tt;
+    kind = g }
 
-control_token : (n byte : ℕ) (set : List Sym) (k : Kind) → control_set n byte ≡ set → IsByte k byte → IsControl k → k ≢ Cp → k ≢ Other → IsTokenOf n set k
+control_token : (n byte : ℕ) (set : List Sym) (k : Kind) → control_set n byte ≡ set → IsByte k byte → IsControl k
+    → k ≢ Cp → k ≢ Other → IsTokenOf n set k
 control_token n byte set Data e f g a b = absurd g
 control_token n byte set Bs e f g a b = code_token n byte set a_bs Bs e f refl
 control_token n byte set Sr e f g a b = code_token n byte set a_sr Sr e f refl
@@ -152,7 +161,8 @@ bytes_length : (set : List Sym) → length (bytes_of set) ≡ length set
 bytes_length [] = refl
 bytes_length (s ∷ set) = ap suc (bytes_length set)
 
-pub find_token : (n : ℕ) (set : List Sym) (k : Kind) → length set ≡ n → kind_of set ≡ Some k → k ≢ Cp → k ≢ Other → IsTokenOf n set k
+pub find_token : (n : ℕ) (set : List Sym) (k : Kind) → length set ≡ n → kind_of set ≡ Some k → k ≢ Cp → k ≢ Other
+    → IsTokenOf n set k
 find_token n [] k l h a b = absurd (cc)
 find_token n (s ∷ set) k l h a b = go s.control refl
   where
@@ -162,7 +172,8 @@ find_token n (s ∷ set) k l h a b = go s.control refl
     go : (v : Bool) → s.control ≡ v → IsTokenOf n (s ∷ set) k
     go false e =
         let d : Data ≡ k = ap (λ v. if v then control_kind s.byte else Data) (sym e) ∙ h'.1 in
-        record { token = row (bytes_of (s ∷ set)); sets = all_data s (s ∷ set) e h'.0; good = bytes_length (s ∷ set) ∙ l; kind = d }
+        record { token = row (bytes_of (s ∷ set)); sets = all_data s (s ∷ set) e h'.0; good =
+            bytes_length (s ∷ set) ∙ l; kind = d }
     go true e =
         let d : control_kind s.byte ≡ k = ap (λ v. if v then control_kind s.byte else Data) (sym e) ∙ h'.1 in
         control_token n s.byte (s ∷ set) k (ap (λ m. control_set m s.byte) (sym l) ∙ all_code s (s ∷ set) e h'.0)
@@ -212,7 +223,8 @@ code_set n s set k l h a = go s.control refl
     go : (v : Bool) → s.control ≡ v → (s ∷ set ≡ control_set n s.byte) × (control_kind s.byte ≡ k)
     go false e = absurd (a (sym (ap (λ v. if v then control_kind s.byte else Data) (sym e) ∙ h'.1)))
     go true e =
-        (sym (ap (λ m. control_set m s.byte) (sym l) ∙ all_code s (s ∷ set) e h'.0), ap (λ v. if v then control_kind s.byte else Data) (sym e) ∙ h'.1)
+        (sym (ap (λ m. control_set m s.byte) (sym l) ∙ all_code s (s ∷ set) e h'.0),
+            ap (λ v. if v then control_kind s.byte else Data) (sym e) ∙ h'.1)
 
 pub cp_set : (n : ℕ) (set : List Sym) → length set ≡ n → kind_of set ≡ Some Cp → set ≡ control_set n cp
 cp_set n [] l h = absurd (cc)

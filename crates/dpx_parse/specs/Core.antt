@@ -26,7 +26,8 @@ pub record Taken : Type 0 where
 abbrev pub by_fault : Core → List Sym → Mark → State → Option ParseWhy → Result Taken ParseWhy
 by_fault c set mark state (Some why) = Err why
 by_fault c set mark state None = Ok (record {
-  core = record c { state = state; counts = after (lanes_count c.lanes) c.counts mark (bytes_of set); unended = open_after state c.unended };
+  core = record c { state = state; counts = after (lanes_count c.lanes) c.counts mark (bytes_of set); unended =
+      open_after state c.unended };
   event = event_by (lanes_count c.lanes) c.counts mark (bytes_of set);
 })
 
@@ -36,7 +37,8 @@ by_next c set kind (Some to) = by_fault c set to.0 to.1 (fault_by (lanes_count c
 
 abbrev pub by_kind : Core → List Sym → Option Kind → Result Taken ParseWhy
 by_kind c set None = Err Mixed
-by_kind c set (Some kind) = by_next c set kind (next c.enhanced (12 / lanes_count c.lanes) (36 / lanes_count c.lanes) c.state kind)
+by_kind c set (Some kind) = by_next c set kind
+    (next c.enhanced (12 / lanes_count c.lanes) (36 / lanes_count c.lanes) c.state kind)
 
 abbrev pub taken_by : Core → List Sym → Result Taken ParseWhy
 taken_by c set = by_kind c set (kind_of set)

@@ -1,7 +1,8 @@
 -- What the machine keeps.
-use Rattle.std.specs.Prelude.{ℕ, ◌+◌, ◌-◌, ◌^◌, ◌&&◌, true, false, nat_le, min, if◌then◌else◌, List, ◌∷◌, length, replicate, slice_index, Option, Some, None, Result, unwrap_or, is_some}
+use Rattle.std.specs.Prelude.{ℕ, ◌+◌, ◌-◌, ◌^◌, ◌&&◌, true, false, nat_le, min, if◌then◌else◌, List, ◌∷◌, length}
+use Rattle.std.specs.Prelude.{replicate, slice_index, Option, Some, None, Result, unwrap_or, is_some}
 use Rattle.std.specs.Result.{result_ok}
-use Rattle.dpx_msa.specs.declared.attributes.Attributes.{Attributes as Told}
+use Rattle.dpx_msa.specs.declared.attributes.Attributes.{Attributes as MsaAttributes}
 use Rattle.dpx_msa.specs.declared.bad.MsaBad.{MsaBad}
 use Rattle.dpx_msa.specs.Reading.{reading}
 use Rattle.dpx_parse.specs.Columns.{dealt}
@@ -13,10 +14,12 @@ use Rattle.dpx_parse.specs.declared.counts.Counts.{Counts}
 use Rattle.dpx_parse.specs.declared.event.Event.{Event}
 use Rattle.dpx_parse.specs.declared.event.Event.TheVariants as event
 use Rattle.dpx_parse.specs.declared.state.Mark.{Mark}
-use Rattle.dpx_parse.specs.declared.state.Mark.TheVariants.{Head, Id, Opens, Number, AttributesEnd, Begins, Valid, Other}
+use Rattle.dpx_parse.specs.declared.state.Mark.TheVariants.{Head, Id, Opens, Number, AttributesEnd, Begins, Valid}
+use Rattle.dpx_parse.specs.declared.state.Mark.TheVariants.{Other}
 
 abbrev pub no_counts : Counts
-no_counts = record { attributes = None; lines = 0; valids = 0; live = false; first = None; bytes = replicate 36 0; taken = 0 }
+no_counts = record { attributes = None; lines = 0; valids = 0; live = false; first = None; bytes = replicate 36 0;
+    taken = 0 }
 
 -- one more, where the count has room in 32 bits
 abbrev pub one_more : ℕ → ℕ
@@ -26,9 +29,10 @@ abbrev pub headed : Counts → Counts
 headed c = record c { lines = if c.live then one_more c.lines else c.lines; live = false; first = None }
 
 abbrev pub with_row : Counts → List ℕ → Counts
-with_row c row = if nat_le (c.taken + length row) 36 then record c { bytes = put c.bytes c.taken row; taken = c.taken + length row } else c
+with_row c row = if nat_le (c.taken + length row) 36 then record c { bytes = put c.bytes c.taken row; taken =
+    c.taken + length row } else c
 
-abbrev pub read_by : ℕ → Counts → Result Told MsaBad
+abbrev pub read_by : ℕ → Counts → Result MsaAttributes MsaBad
 read_by lanes c = reading (dealt lanes c.bytes)
 
 abbrev pub kept_ids : Option ℕ → List ℕ → List ℕ

@@ -15,7 +15,8 @@ attributes_event (Err bad) = event.Nothing
 
 -- of a part that is told after those
 abbrev pub part_event : ℕ → List Part → Part → Event
-part_event lanes before (group reset) = if is_some (in_force lanes before) && is_live before then event.LineEnd else event.Nothing
+part_event lanes before (group reset) = if is_some (in_force lanes before)
+    && is_live before then event.LineEnd else event.Nothing
 part_event lanes before (attributes rows) = attributes_event (reading (gathered lanes rows))
 part_event lanes before begins = if is_some (in_force lanes before) then event.LineStart else event.Nothing
 part_event lanes before (valid row) = if is_some (in_force lanes before) then event.Valid row else event.Nothing

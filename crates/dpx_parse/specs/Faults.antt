@@ -1,6 +1,7 @@
 -- What may be told after what: the reasons of the first set that breaks a rule. The parts before are newest first, the
 -- last as far as it is told.
-use Rattle.std.specs.Prelude.{ℕ, ◌≡◌, ◌+◌, ◌/◌, ◌%◌, ◌==◌, ◌&&◌, ⊤, Bool, true, false, nat_lt, if◌then◌else◌, List, [], ◌∷◌, Option, Some, None, Result, Ok, Err}
+use Rattle.std.specs.Prelude.{ℕ, ◌≡◌, ◌+◌, ◌/◌, ◌%◌, ◌==◌, ◌&&◌, ⊤, Bool, true, false, nat_lt, if◌then◌else◌, List, []}
+use Rattle.std.specs.Prelude.{◌∷◌, Option, Some, None, Result, Ok, Err}
 use Rattle.std.specs.Result.{result_ok}
 use Rattle.dpx_msa.specs.declared.attributes.Attributes.{Attributes}
 use Rattle.dpx_msa.specs.declared.bad.MsaBad.{MsaBad}
@@ -9,7 +10,8 @@ use Rattle.dpx_grammar.specs.Gathered.{gathered}
 use Rattle.dpx_msa.specs.Reading.{reading}
 use Rattle.dpx_grammar.specs.Parts.{Part, group, block, attributes, begins, valid}
 use Rattle.dpx_parse.specs.declared.bad.ParseWhy.{ParseWhy}
-use Rattle.dpx_parse.specs.declared.bad.ParseWhy.TheVariants.{Interlaced, VbIdDiffers, Msa, LineLong, LineShort, FrameShort, FrameLong}
+use Rattle.dpx_parse.specs.declared.bad.ParseWhy.TheVariants.{Interlaced, VbIdDiffers, Msa, LineLong, LineShort}
+use Rattle.dpx_parse.specs.declared.bad.ParseWhy.TheVariants.{FrameShort, FrameLong}
 
 -- the attributes in force
 abbrev pub in_force : ℕ → List Part → Option Attributes

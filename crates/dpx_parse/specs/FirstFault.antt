@@ -31,12 +31,15 @@ IsUniform set = ((row : List ℕ) × (set ≡ data_set row)) ⊎ ((code : ℕ) �
 -- so many sets of a group stand at the end
 abbrev pub IsInGroup : Bool → ℕ → List (List Sym) → ℕ → Type 0
 IsInGroup enhanced lanes sets n =
-    (whole : List Part) × (reset : Bool) × (front : List (List Sym)) × IsCut enhanced lanes sets whole (group reset) front × (length front ≡ n)
+    (whole : List Part) × (reset : Bool) × (front : List (List Sym))
+        × IsCut enhanced lanes sets whole (group reset) front × (length front ≡ n)
 
 -- the reason of a uniform set that continues no prefix of a list of periods
 abbrev pub IsUnframed : Bool → ℕ → List (List Sym) → List Sym → ParseWhy → Type 0
-IsUnframed enhanced lanes sets set Protected = (n : ℕ) × (1 ≤ n) × (n ≤ 2) × IsInGroup enhanced lanes sets n × (set ≡ control_set lanes cp)
-IsUnframed enhanced lanes sets set BadGroup = (n : ℕ) × (1 ≤ n) × (n ≤ 3) × IsInGroup enhanced lanes sets n × (n ≤ 2 → set ≡ control_set lanes cp → ⊥)
+IsUnframed enhanced lanes sets set Protected =
+    (n : ℕ) × (1 ≤ n) × (n ≤ 2) × IsInGroup enhanced lanes sets n × (set ≡ control_set lanes cp)
+IsUnframed enhanced lanes sets set BadGroup =
+    (n : ℕ) × (1 ≤ n) × (n ≤ 3) × IsInGroup enhanced lanes sets n × (n ≤ 2 → set ≡ control_set lanes cp → ⊥)
 IsUnframed enhanced lanes sets set BadControl = (n : ℕ) → 1 ≤ n → IsInGroup enhanced lanes sets n → ⊥
 IsUnframed enhanced lanes sets set _ = ⊥
 
@@ -45,27 +48,32 @@ pub record IsMixed (set : List Sym) (why : ParseWhy) : Type 0 where
   pub mixed : IsUniform set → ⊥
   pub is_mixed : why ≡ Mixed
 
-pub record IsStray (enhanced : Bool) (lanes : ℕ) (sets : List (List Sym)) (set : List Sym) (why : ParseWhy) : Type 0 where
+pub record IsStray (enhanced : Bool) (lanes : ℕ) (sets : List (List Sym)) (set : List Sym)
+    (why : ParseWhy) : Type 0 where
   pub uniform : IsUniform set
   pub stray : (parts : List Part) → Tells enhanced lanes (sets ++ set ∷ []) parts → ⊥
   pub unframed : IsUnframed enhanced lanes sets set why
 
-pub record IsWrong (enhanced : Bool) (lanes : ℕ) (sets : List (List Sym)) (set : List Sym) (why : ParseWhy) : Type 0 where
+pub record IsWrong (enhanced : Bool) (lanes : ℕ) (sets : List (List Sym)) (set : List Sym)
+    (why : ParseWhy) : Type 0 where
   pub parts : List Part
   pub tells : Tells enhanced lanes (sets ++ set ∷ []) parts
   pub wrong : newest lanes (reverse parts) ≡ Some why
 
 abbrev pub IsReason : Bool → ℕ → List (List Sym) → List Sym → ParseWhy → Type 0
-IsReason enhanced lanes sets set why = IsMixed set why ⊎ (IsStray enhanced lanes sets set why ⊎ IsWrong enhanced lanes sets set why)
+IsReason enhanced lanes sets set why = IsMixed set why
+    ⊎ (IsStray enhanced lanes sets set why ⊎ IsWrong enhanced lanes sets set why)
 
 -- the set behind those is the first that is not accepted, and this is its reason
-pub record IsFirstFault (enhanced : Bool) (lanes : ℕ) (sets : List (List Sym)) (set : List Sym) (why : ParseWhy) : Type 0 where
+pub record IsFirstFault (enhanced : Bool) (lanes : ℕ) (sets : List (List Sym)) (set : List Sym)
+    (why : ParseWhy) : Type 0 where
   pub before : IsAccepted enhanced lanes sets
   pub fault : IsAccepted enhanced lanes (sets ++ set ∷ []) → ⊥
   pub reason : IsReason enhanced lanes sets set why
 
 -- what a set that is accepted behind those tells
-pub record IsEvent (enhanced : Bool) (lanes : ℕ) (sets : List (List Sym)) (set : List Sym) (event : Event) : Type 0 where
+pub record IsEvent (enhanced : Bool) (lanes : ℕ) (sets : List (List Sym)) (set : List Sym)
+    (event : Event) : Type 0 where
   pub old : List Part
   pub old_are : Tells enhanced lanes sets old
   pub new : List Part

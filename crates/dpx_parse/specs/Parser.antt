@@ -25,16 +25,19 @@ abbrev pub HasRefused : Parser → ParseBad → Type 0
 HasRefused p bad = p.refused ≡ Some bad
 
 -- the set is accepted behind those, and tells this
-pub record Accepts (enhanced : Bool) (lanes : ℕ) (sets : List (List Sym)) (set : List Sym) (event : Event) (now : Parser) : Type 0 where
+pub record Accepts (enhanced : Bool) (lanes : ℕ) (sets : List (List Sym)) (set : List Sym) (event : Event)
+    (now : Parser) : Type 0 where
   pub stands : StandsFor now (sets ++ set ∷ [])
   pub accepted : IsAccepted enhanced lanes (sets ++ set ∷ [])
   pub tells : IsEvent enhanced lanes sets set event
 
 -- the set is the first fault behind those
-pub record Refuses (enhanced : Bool) (lanes : ℕ) (sets : List (List Sym)) (set : List Sym) (bad : ParseBad) : Type 0 where
+pub record Refuses (enhanced : Bool) (lanes : ℕ) (sets : List (List Sym)) (set : List Sym)
+    (bad : ParseBad) : Type 0 where
   pub number : bad.set ≡ number_of (length sets)
   pub fault : IsFirstFault enhanced lanes sets set bad.why
 
 -- as many sets of an unfinished line as the sets have
 abbrev pub IsTail : Bool → ℕ → List (List Sym) → ℕ → Type 0
-IsTail enhanced lanes sets n = (frames : List Frame) (tail : ℕ) → Receives enhanced lanes sets frames tail → n ≡ number_of tail
+IsTail enhanced lanes sets n = (frames : List Frame) (tail : ℕ) → Receives enhanced lanes sets frames tail
+    → n ≡ number_of tail

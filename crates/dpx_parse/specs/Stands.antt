@@ -1,5 +1,6 @@
 -- What the machine stands for.
-use Rattle.std.specs.Prelude.{ℕ, zero, suc, ◌≡◌, ◌≤◌, ◌+◌, ◌/◌, ◌-◌, ◌^◌, min, ⊤, Bool, true, false, if◌then◌else◌, List, [], ◌∷◌, length, take, reverse, Some, None}
+use Rattle.std.specs.Prelude.{ℕ, zero, suc, ◌≡◌, ◌≤◌, ◌+◌, ◌/◌, ◌-◌, ◌^◌, min, ⊤, Bool, true, false, if◌then◌else◌}
+use Rattle.std.specs.Prelude.{List, [], ◌∷◌, length, take, reverse, Some, None}
 use Rattle.dpx_base.specs.declared.sym.Sym.{Sym}
 use Rattle.dpx_base.specs.Lanes.{lanes_count}
 use Rattle.dpx_msa.specs.declared.attributes.Attributes.{Attributes}
@@ -12,7 +13,8 @@ use Rattle.dpx_parse.specs.Faults.{in_force, is_live, valids, lines, AllStand, f
 use Rattle.dpx_parse.specs.declared.counts.Counts.{Counts}
 use Rattle.dpx_parse.specs.declared.machine.Core.{Core}
 use Rattle.dpx_parse.specs.declared.state.State.{State}
-use Rattle.dpx_parse.specs.declared.state.State.TheVariants.{Start, Second, Third, Fourth, Ids, Blank, Opened, Numbers, Packet, Active, Fill}
+use Rattle.dpx_parse.specs.declared.state.State.TheVariants.{Start, Second, Third, Fourth, Ids, Blank, Opened, Numbers}
+use Rattle.dpx_parse.specs.declared.state.State.TheVariants.{Packet, Active, Fill}
 
 -- a place without its rows
 abbrev pub state_of : Place → State
@@ -43,9 +45,11 @@ is_live_at _ = false
 -- what is kept of the part that is not whole
 abbrev pub AtPlace : ℕ → Counts → Place → Type 0
 AtPlace lanes c (head reset n) = (1 ≤ n) × (n ≤ 3) × (c.first ≡ None)
-AtPlace lanes c (ids rows n) = AreRows lanes rows × (length rows + n ≡ 12 / lanes) × (1 ≤ n) × (c.first ≡ first_in (copies rows))
+AtPlace lanes c (ids rows n) = AreRows lanes rows × (length rows + n ≡ 12 / lanes) × (1 ≤ n)
+    × (c.first ≡ first_in (copies rows))
 AtPlace lanes c (numbers rows n) =
-    AreRows lanes rows × (length rows + n ≡ 36 / lanes) × (c.taken ≡ length (flat rows)) × (take c.taken c.bytes ≡ flat rows)
+    AreRows lanes rows × (length rows + n ≡ 36 / lanes) × (c.taken ≡ length (flat rows))
+        × (take c.taken c.bytes ≡ flat rows)
 AtPlace lanes c _ = ⊤
 
 -- what is kept of the parts that are told
@@ -54,7 +58,8 @@ pub record Knows (lanes : ℕ) (c : Counts) (parts : List Part) (place : Place) 
   pub live : c.live ≡ is_live parts
   pub live_at : is_live parts ≡ is_live_at place
   pub lines : (a : Attributes) → in_force lanes parts ≡ Some a
-      → (c.lines ≡ lines parts) × (lines parts + (if is_live parts then 1 else 0) ≤ a.height) × (a.height ≤ 8192) × (line_length lanes a ≤ 65536)
+      → (c.lines ≡ lines parts) × (lines parts + (if is_live parts then 1 else 0) ≤ a.height) × (a.height ≤ 8192)
+          × (line_length lanes a ≤ 65536)
   pub valids : (a : Attributes) → in_force lanes parts ≡ Some a → is_live parts ≡ true
       → (c.valids ≡ valids parts) × (valids parts ≤ line_length lanes a)
   pub room : length c.bytes ≡ 36
@@ -66,7 +71,8 @@ since enhanced lanes [] = 0
 since enhanced lanes (group reset ∷ before) = 0
 since enhanced lanes (begins ∷ before) = 1
 since enhanced lanes (valid row ∷ before) = since enhanced lanes before + 1
-since enhanced lanes (stuffing rows ∷ before) = since enhanced lanes before + length (sets_of enhanced lanes (stuffing rows))
+since enhanced lanes (stuffing rows ∷ before) =
+    since enhanced lanes before + length (sets_of enhanced lanes (stuffing rows))
 since enhanced lanes (_ ∷ before) = since enhanced lanes before
 
 abbrev pub fronts : Place → ℕ
