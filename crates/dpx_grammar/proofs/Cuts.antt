@@ -43,7 +43,7 @@ found whole s = Some (whole, s)
 ids_part : (enhanced : Bool) (b a n j : ℕ) (whole : List Part) (rows rs : List (List ℕ)) → j < length rs
     → length rs ≡ suc n
     → run enhanced b a whole (ids rows (suc n)) (take j (map row rs))
-        ≡ found whole (ids (rows ++ take j rs) (suc n - j))
+    ≡ found whole (ids (rows ++ take j rs) (suc n - j))
 ids_part enhanced b a n j whole rows [] l h = absurd (omega arith)
 ids_part enhanced b a n zero whole rows (r ∷ rs) l h =
     let z : suc n ≡ suc n - 0 = omega arith in
@@ -95,8 +95,12 @@ ids_stop : (enhanced : Bool) (b a n j : ℕ) (whole : List Part) (rows : List (L
     → Stops enhanced b a whole (ids [] (suc n)) (take (suc j) (map row rows)) (block (take (suc j) rows) ∷ [])
 ids_stop enhanced b a n j whole [] l h = absurd (omega arith)
 ids_stop enhanced b a n j whole (r ∷ rows) l h =
-    record { place = ids (r ∷ take j rows) (suc n - suc j); reached =
-        ids_part enhanced b a n (suc j) whole [] (r ∷ rows) l h; tells = refl }
+    record {
+      place = ids (r ∷ take j rows) (suc n - suc j);
+      reached =
+          ids_part enhanced b a n (suc j) whole [] (r ∷ rows) l h;
+      tells = refl;
+    }
 
 tail_length : (rows : List (List ℕ)) (t : Token) → length (map row rows ++ t ∷ []) ≡ suc (length rows)
 tail_length [] t = refl
@@ -159,9 +163,9 @@ part_stops enhanced lanes k (suc zero) blanking (attributes rows) whole e f l =
     record { place = opened; reached = refl; tells = refl }
 part_stops enhanced lanes k (suc (suc n)) blanking (attributes rows) whole e f l =
     let s : Stops enhanced (suc k) (36 / lanes) whole (numbers [] (36 / lanes))
-        (take n (map row rows ++ code an_se ∷ [])) [] =
+    (take n (map row rows ++ code an_se ∷ [])) [] =
     numbers_part enhanced (suc k) (36 / lanes) (36 / lanes) n whole [] rows (code an_se)
-        (omega (arith, tail_length rows (code an_se))) f.1 in
+    (omega (arith, tail_length rows (code an_se))) f.1 in
     record { place = s.place; reached = s.reached; tells = s.tells }
 part_stops enhanced lanes k (suc n) blanking (secondary []) whole e f l = absurd (omega (arith, f.1))
 part_stops enhanced lanes k (suc zero) blanking (secondary (r ∷ rows)) whole e f l =
@@ -169,7 +173,7 @@ part_stops enhanced lanes k (suc zero) blanking (secondary (r ∷ rows)) whole e
 part_stops enhanced lanes k (suc (suc n)) blanking (secondary (r ∷ rows)) whole e f l =
     let s : Stops enhanced (suc k) (36 / lanes) whole (packet (r ∷ [])) (take n (map row rows ++ code an_se ∷ [])) [] =
     packet_part enhanced (suc k) (36 / lanes) n whole (r ∷ []) rows (code an_se)
-        (omega (arith, tail_length rows (code an_se))) in
+    (omega (arith, tail_length rows (code an_se))) in
     record { place = s.place; reached = s.reached; tells = s.tells }
 part_stops enhanced lanes k (suc n) blanking begins whole e f l = absurd (omega arith)
 part_stops enhanced lanes k (suc n) showing (valid bytes) whole e f l = absurd (omega arith)
@@ -177,7 +181,7 @@ part_stops enhanced lanes k (suc n) showing (stuffing None) whole e f l = absurd
 part_stops enhanced lanes k (suc n) showing (stuffing (Some rows)) whole e f l =
     let s : Stops enhanced (suc k) (36 / lanes) whole (fill []) (take n (map row rows ++ code an_fe ∷ [])) [] =
     fill_part enhanced (suc k) (36 / lanes) n whole [] rows (code an_fe)
-        (omega (arith, tail_length rows (code an_fe))) in
+    (omega (arith, tail_length rows (code an_fe))) in
     record { place = s.place; reached = s.reached; tells = s.tells }
 part_stops enhanced lanes k (suc n) m x whole e f l = absurd f
 
@@ -230,7 +234,7 @@ body_chain lanes (block rows) us vs rest i b a e =
       i,
       subst (λ xs. Chain lanes blanking xs) (sym (append_assoc us vs rest))
           (chain_join lanes blanking us (vs ++ rest) c.0
-              (subst (λ m. Chain lanes m (vs ++ rest)) (sym c.1) (may_chain lanes vs rest a e))),
+          (subst (λ m. Chain lanes m (vs ++ rest)) (sym c.1) (may_chain lanes vs rest a e))),
     )
 body_chain lanes x us vs rest i b a e = absurd i
 
@@ -248,7 +252,7 @@ periods_chain lanes (p ∷ ps) h =
     let e = periods_chain lanes ps h.1 in
     subst (λ xs. Ends lanes (xs ++ flat_map (λ period. period) ps)) (sym h.0.joined)
     (period_chain lanes h.0.head h.0.ids h.0.blank h.0.active
-        (flat_map (λ period. period) ps) h.0.is_group h.0.is_block h.0.is_blank h.0.may_be_active e)
+    (flat_map (λ period. period) ps) h.0.is_group h.0.is_block h.0.is_blank h.0.may_be_active e)
 
 opens : (lanes : ℕ) (xs : List Part) → StartsWithSr xs → Chain lanes blanking xs → Chain lanes opening xs
 opens lanes (group reset ∷ xs) s c = (s, c.1)
@@ -258,4 +262,4 @@ opens lanes [] s c = absurd s
 pub is_chain : (lanes : ℕ) (xs : List Part) → ArePeriods lanes xs → Chain lanes opening xs
 is_chain lanes xs h =
     opens lanes xs h.first (subst (λ ys. Chain lanes blanking ys) (sym h.joined)
-        (periods_chain lanes h.periods h.each).0)
+    (periods_chain lanes h.periods h.each).0)

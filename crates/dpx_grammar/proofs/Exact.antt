@@ -15,7 +15,8 @@ use Rattle.dpx_grammar.specs.Machine.{begun_of, token_set, Place, start, run, Re
 use Rattle.dpx_grammar.proofs.Runs.{tokens, Mode, opening, headed, blanking, showing, after, Chain, end}
 use Rattle.dpx_grammar.proofs.Cuts.{chain_join, begun_is, told_in}
 use Rattle.dpx_grammar.proofs.Unique.{part_sets, parts_sets, cut_runs, blocks, IsRun}
-use Rattle.dpx_grammar.proofs.Sound.{front_of, Ran, run_sound, Goes, goes, zero_rows, zeros}
+use Rattle.dpx_grammar.proofs.Sound.{front_of, Ran, run_sound}
+use Rattle.dpx_grammar.proofs.GoingOn.{Goes, goes, zero_rows, zeros}
 
 -- ---- a chain that ends behind a block is a list of periods
 
@@ -70,7 +71,7 @@ period_from lanes reset xs h = record {
   periods = (group reset ∷ h.y ∷ (h.body.us ++ h.body.vs)) ∷ h.body.then_periods.periods;
   joined =
       ap (λ zs. group reset ∷ zs) (h.joined ∙ ap (λ zs. h.y ∷ zs)
-          (h.body.joined ∙ ap (λ zs. (h.body.us ++ h.body.vs) ++ zs) h.body.then_periods.joined));
+      (h.body.joined ∙ ap (λ zs. (h.body.us ++ h.body.vs) ++ zs) h.body.then_periods.joined));
   each = (
     record {
       head = group reset;
@@ -88,8 +89,14 @@ period_from lanes reset xs h = record {
 }
 
 show_one : (lanes : ℕ) (x : Part) (xs : List Part) → IsActive lanes x → Shown lanes xs → Shown lanes (x ∷ xs)
-show_one lanes x xs a s = record { acts = x ∷ s.acts; rest = s.rest; joined = ap (λ zs. x ∷ zs) s.joined; are =
-    (a, s.are); then_periods = s.then_periods }
+show_one lanes x xs a s = record {
+  acts = x ∷ s.acts;
+  rest = s.rest;
+  joined = ap (λ zs. x ∷ zs) s.joined;
+  are =
+      (a, s.are);
+  then_periods = s.then_periods;
+}
 
 blank_one : (lanes : ℕ) (x : Part) (xs : List Part) → IsBlank lanes x → Blanks lanes xs → Blanks lanes (x ∷ xs)
 blank_one lanes x xs a s = record {
@@ -107,22 +114,51 @@ split lanes showing [] c b = record { acts = []; rest = []; joined = refl; are =
 split lanes showing (valid bytes ∷ xs) c b = show_one lanes (valid bytes) xs c.0 (split lanes showing xs c.1 b)
 split lanes showing (stuffing rows ∷ xs) c b = show_one lanes (stuffing rows) xs c.0 (split lanes showing xs c.1 b)
 split lanes showing (group reset ∷ xs) c b =
-    record { acts = []; rest = group reset ∷ xs; joined = refl; are = tt; then_periods =
-        period_from lanes reset xs (split lanes headed xs c.1 b) }
+    record {
+      acts = [];
+      rest = group reset ∷ xs;
+      joined = refl;
+      are = tt;
+      then_periods =
+          period_from lanes reset xs (split lanes headed xs c.1 b);
+    }
 split lanes blanking [] c b =
-    record { us = []; vs = []; rest = []; joined = refl; are_blank = tt; are_active = tt; then_periods =
-        no_periods lanes }
+    record {
+      us = [];
+      vs = [];
+      rest = [];
+      joined = refl;
+      are_blank = tt;
+      are_active = tt;
+      then_periods =
+          no_periods lanes;
+    }
 split lanes blanking (filler bytes ∷ xs) c b = blank_one lanes (filler bytes) xs c.0 (split lanes blanking xs c.1 b)
 split lanes blanking (attributes rows ∷ xs) c b =
     blank_one lanes (attributes rows) xs c.0 (split lanes blanking xs c.1 b)
 split lanes blanking (secondary rows ∷ xs) c b = blank_one lanes (secondary rows) xs c.0 (split lanes blanking xs c.1 b)
 split lanes blanking (begins ∷ xs) c b =
     let s : Shown lanes xs = split lanes showing xs c.1 b in
-    record { us = []; vs = begins ∷ s.acts; rest = s.rest; joined = ap (λ zs. begins ∷ zs) s.joined; are_blank = tt;
-        are_active = s.are; then_periods = s.then_periods }
+    record {
+      us = [];
+      vs = begins ∷ s.acts;
+      rest = s.rest;
+      joined = ap (λ zs. begins ∷ zs) s.joined;
+      are_blank = tt;
+      are_active = s.are;
+      then_periods = s.then_periods;
+    }
 split lanes blanking (group reset ∷ xs) c b =
-    record { us = []; vs = []; rest = group reset ∷ xs; joined = refl; are_blank = tt; are_active = tt; then_periods =
-        period_from lanes reset xs (split lanes headed xs c.1 b) }
+    record {
+      us = [];
+      vs = [];
+      rest = group reset ∷ xs;
+      joined = refl;
+      are_blank = tt;
+      are_active = tt;
+      then_periods =
+          period_from lanes reset xs (split lanes headed xs c.1 b);
+    }
 split lanes headed (block rows ∷ xs) c b =
     record { y = block rows; ys = xs; joined = refl; is_block = c.0; body = split lanes blanking xs c.1 b }
 split lanes opening (group reset ∷ xs) c b = period_from lanes reset xs (split lanes headed xs c.1 b)
@@ -192,15 +228,15 @@ reads_cut enhanced lanes sets whole place r =
     let n : ℕ = lanes_count lanes in
     let ran : Ran enhanced (lanes_count lanes) opening start r.tokens [] whole place =
     run_sound enhanced (lanes_count lanes) r.tokens whole place r.uniform
-        (block_some lanes) opening start [] tt r.reached in
+    (block_some lanes) opening start [] tt r.reached in
     let goes_on : Goes enhanced (lanes_count lanes) (end opening ran.parts) place =
-        goes enhanced (lanes_count lanes) (end opening ran.parts) place ran.stands in
+    goes enhanced (lanes_count lanes) (end opening ran.parts) place ran.stands in
     let back : List Part = goes_on.next ∷ more_of (lanes_count lanes) (after goes_on.next) in
     let more = more_chain (lanes_count lanes) (after goes_on.next) (never_opening goes_on.next) in
     let chain : Chain (lanes_count lanes) opening (ran.parts ++ back) =
     chain_join (lanes_count lanes) opening ran.parts back ran.chain (goes_on.follows, more.0) in
     let behind : IsBehind (end opening (ran.parts ++ back)) =
-        subst (λ m. IsBehind m) (sym (end_join opening ran.parts back)) more.1 in
+    subst (λ m. IsBehind m) (sym (end_join opening ran.parts back)) more.1 in
     let same : ran.parts ≡ whole = sym ran.grew in
     record {
       next = goes_on.next;
@@ -212,12 +248,12 @@ reads_cut enhanced lanes sets whole place r =
             sym r.sets_are ∙ ap (map (token_set (lanes_count lanes))) ran.spelled
             ∙ map-append (token_set (lanes_count lanes)) (flat_map (tokens enhanced) ran.parts) (front_of place)
             ∙ ap (λ zs. zs ++ map (token_set (lanes_count lanes)) (front_of place))
-                (parts_sets enhanced (lanes_count lanes) ran.parts)
+            (parts_sets enhanced (lanes_count lanes) ran.parts)
             ∙ ap (λ w. flat_map (sets_of enhanced (lanes_count lanes)) w ++ map (token_set (lanes_count lanes))
-                (front_of place)) same;
+            (front_of place)) same;
         of_next =
             sym (part_sets enhanced (lanes_count lanes) goes_on.next)
-                ∙ ap (map (token_set (lanes_count lanes))) goes_on.spelled
+            ∙ ap (map (token_set (lanes_count lanes))) goes_on.spelled
             ∙ map-append (token_set (lanes_count lanes)) (front_of place) goes_on.back;
         unfinished = some_map (token_set (lanes_count lanes)) goes_on.back goes_on.unfinished;
         are_periods = subst (λ w. ArePeriods (lanes_count lanes) (w ++ back)) same
@@ -236,7 +272,7 @@ cut_reads : (enhanced : Bool) (lanes : Lanes) (sets : List (List Sym)) (whole : 
 cut_reads enhanced lanes sets whole next front c =
     let b = blocks lanes in
     let r : IsRun enhanced (lanes_count lanes) b.0 sets whole next front =
-        cut_runs enhanced (lanes_count lanes) b.0 sets whole next front b.1 c in (
+    cut_runs enhanced (lanes_count lanes) b.0 sets whole next front b.1 c in (
       r.place,
       record {
         tokens = r.taken;
@@ -247,5 +283,8 @@ cut_reads enhanced lanes sets whole next front c =
     )
 
 pub reads_exactly : ReadsExactly
-reads_exactly enhanced lanes sets whole = (λ r. let c = reads_cut enhanced lanes sets whole r.0 r.1 in
-    (c.next, c.front, c.cut), λ next front c. cut_reads enhanced lanes sets whole next front c)
+reads_exactly enhanced lanes sets whole = (
+  λ r. let c = reads_cut enhanced lanes sets whole r.0 r.1 in
+      (c.next, c.front, c.cut),
+  λ next front c. cut_reads enhanced lanes sets whole next front c,
+)

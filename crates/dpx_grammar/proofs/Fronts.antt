@@ -146,11 +146,11 @@ frames_front lanes (attributes rows ∷ w) x (f ∷ fs) h =
       g ∷ r.0,
       made_of lanes (record { rows = rows; lines = lines_of w }) (frame_parts w)
           (record { attributes = f.attributes; lines = pixels_of lanes f.attributes (lines_of w) }) r.0 (record {
-        frame = record { read = a.frame.read; lengths = l.0; lines = refl };
-        most = omega (arith, l.1, a.most);
-        whole = λ e. sym (told_lines w x e) ∙ a.whole (tells_more w x e);
-        rest = r.1;
-      }),
+            frame = record { read = a.frame.read; lengths = l.0; lines = refl };
+            most = omega (arith, l.1, a.most);
+            whole = λ e. sym (told_lines w x e) ∙ a.whole (tells_more w x e);
+            rest = r.1;
+          }),
     )
 frames_front lanes (begins ∷ w) x fs h = frames_front lanes w x fs h
 frames_front lanes (group reset ∷ w) x fs h = frames_front lanes w x fs h

@@ -3,6 +3,7 @@ pub mod Runs
 pub mod Cuts
 pub mod Unique
 pub mod Sound
+pub mod GoingOn
 pub mod Exact
 pub mod Fronts
 pub mod Prefixes

@@ -36,7 +36,7 @@ plain_end : (lanes code : ℕ) (rows : List (List ℕ)) → code ≢ bf → code
     → ArePlain (map data_set rows ++ control_set lanes code ∷ [])
 plain_end lanes code rows b c =
     all_append (λ set. AllByRecursion IsPlain set) (map data_set rows) (control_set lanes code ∷ []) (plain_rows rows)
-        (plain_code lanes code b c, tt)
+    (plain_code lanes code b c, tt)
 
 plain_part : (lanes : ℕ) (x : Part) → ArePlain (sets_of false lanes x)
 plain_part lanes (group true) = (plain_code lanes sr (λ e. omega arith) (λ e. omega arith), tt)
@@ -46,26 +46,28 @@ plain_part lanes (filler row) = (plain_row row, tt)
 plain_part lanes (attributes rows) =
     let s : AllByRecursion IsPlain (control_set lanes ss) = plain_code lanes ss (λ e. omega arith) (λ e. omega arith) in
     (s, (s, plain_end lanes se rows (λ e. omega arith) (λ e. omega arith)))
-plain_part lanes (secondary rows) =
-    (plain_code lanes ss (λ e. omega arith) (λ e. omega arith),
-        plain_end lanes se rows (λ e. omega arith) (λ e. omega arith))
+plain_part lanes (secondary rows) = (
+  plain_code lanes ss (λ e. omega arith) (λ e. omega arith),
+  plain_end lanes se rows (λ e. omega arith) (λ e. omega arith),
+)
 plain_part lanes begins = (plain_code lanes be (λ e. omega arith) (λ e. omega arith), tt)
 plain_part lanes (valid row) = (plain_row row, tt)
 plain_part lanes (stuffing None) = (plain_code lanes fe (λ e. omega arith) (λ e. omega arith), tt)
-plain_part lanes (stuffing (Some rows)) =
-    (plain_code lanes fs (λ e. omega arith) (λ e. omega arith),
-        plain_end lanes fe rows (λ e. omega arith) (λ e. omega arith))
+plain_part lanes (stuffing (Some rows)) = (
+  plain_code lanes fs (λ e. omega arith) (λ e. omega arith),
+  plain_end lanes fe rows (λ e. omega arith) (λ e. omega arith),
+)
 
 plain_parts : (lanes : ℕ) (xs : List Part) → ArePlain (flat_map (sets_of false lanes) xs)
 plain_parts lanes [] = tt
 plain_parts lanes (x ∷ xs) =
     all_append (λ set. AllByRecursion IsPlain set) (sets_of false lanes x) (flat_map (sets_of false lanes) xs)
-        (plain_part lanes x) (plain_parts lanes xs)
+    (plain_part lanes x) (plain_parts lanes xs)
 
 pub never_bf : DefaultHasNoBf
 never_bf lanes sets (frames, tail, r) =
     subst (λ s. ArePlain s) (sym r.cut.joined)
     (all_append (λ set. AllByRecursion IsPlain set) (flat_map (sets_of false (lanes_count lanes)) r.whole) r.front
-        (plain_parts (lanes_count lanes) r.whole)
+    (plain_parts (lanes_count lanes) r.whole)
     (all_front (λ set. AllByRecursion IsPlain set) r.front r.cut.back
     (subst (λ s. ArePlain s) r.cut.of_next (plain_part (lanes_count lanes) r.next))))

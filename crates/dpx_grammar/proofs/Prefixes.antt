@@ -24,7 +24,7 @@ part_held : (lanes : ℕ) (whole : List Part) (x : Part) → Holds lanes ((whole
     → Holds lanes (whole ++ [])
 part_held lanes whole x h =
     subst (λ w. Holds lanes w) (sym (append-nil whole))
-        (holds_front lanes whole x (subst (λ w. Holds lanes w) (append-nil (whole ++ x ∷ [])) h))
+    (holds_front lanes whole x (subst (λ w. Holds lanes w) (append-nil (whole ++ x ∷ [])) h))
 
 begin_held : (lanes : ℕ) (whole : List Part) (x : Part) → Holds lanes (whole ++ x ∷ []) → Holds lanes (whole ++ [])
 begin_held lanes whole x h = subst (λ w. Holds lanes w) (sym (append-nil whole)) (holds_front lanes whole x h)
@@ -80,9 +80,9 @@ more_held : (enhanced : Bool) (lanes b a : ℕ) (whole : List Part) (s : Place) 
     (ts : List Token) (w : List Part) (now : Place)
     → Held lanes whole s o
     → ((whole : List Part) (s : Place) → run enhanced b a whole s ts ≡ Some (w, now) → Holds lanes (w ++ begun_of now)
-        → Holds lanes (whole ++ begun_of s))
+    → Holds lanes (whole ++ begun_of s))
     → go_on whole o (λ v p. run enhanced b a v p ts) ≡ Some (w, now) → Holds lanes (w ++ begun_of now)
-        → Holds lanes (whole ++ begun_of s)
+    → Holds lanes (whole ++ begun_of s)
 more_held enhanced lanes b a whole s None ts w now held more e h = absurd (no_some (w, now) e)
 more_held enhanced lanes b a whole s (Some (o, next)) ts w now held more e h = held (more (grown whole o) next e h)
 
@@ -94,7 +94,7 @@ run_held enhanced lanes b a [] w now whole s e h =
     subst (λ (q : List Part × Place). Holds lanes (q.0 ++ begun_of q.1)) (sym p) h
 run_held enhanced lanes b a (t ∷ ts) w now whole s e h =
     more_held enhanced lanes b a whole s (step enhanced b a s t) ts w now (step_held enhanced lanes b a whole s t)
-        (λ v p. run_held enhanced lanes b a ts w now v p) e h
+    (λ v p. run_held enhanced lanes b a ts w now v p) e h
 
 -- ---- a run of a list is a run of its front, and then of the rest
 
@@ -109,9 +109,9 @@ split_more : (enhanced : Bool) (b a : ℕ) (whole : List Part) (s : Place) (t : 
     (xs ys : List Token) (w : List Part) (now : Place)
     → step enhanced b a s t ≡ o
     → ((whole : List Part) (s : Place) → run enhanced b a whole s (xs ++ ys) ≡ Some (w, now)
-        → IsSplit enhanced b a whole s xs ys w now)
+    → IsSplit enhanced b a whole s xs ys w now)
     → go_on whole o (λ v p. run enhanced b a v p (xs ++ ys)) ≡ Some (w, now)
-        → IsSplit enhanced b a whole s (t ∷ xs) ys w now
+    → IsSplit enhanced b a whole s (t ∷ xs) ys w now
 split_more enhanced b a whole s t None xs ys w now is more e = absurd (no_some (w, now) e)
 split_more enhanced b a whole s t (Some (o, next)) xs ys w now is more e =
     let r : IsSplit enhanced b a (grown whole o) next xs ys w now = more (grown whole o) next e in
@@ -128,20 +128,20 @@ pub run_split : (enhanced : Bool) (b a : ℕ) (xs ys : List Token) (w : List Par
 run_split enhanced b a [] ys w now whole s e = record { middle = whole; place = s; first = refl; rest = e }
 run_split enhanced b a (t ∷ xs) ys w now whole s e =
     split_more enhanced b a whole s t (step enhanced b a s t) xs ys w now refl
-        (λ v p. run_split enhanced b a xs ys w now v p) e
+    (λ v p. run_split enhanced b a xs ys w now v p) e
 
 pub fronts_are_accepted : FrontsAreAccepted
 fronts_are_accepted enhanced lanes sets more (frames, tail, r) =
     let n : ℕ = lanes_count lanes in
     let k = blocks lanes in
     let all : IsRun enhanced (lanes_count lanes) k.0 (sets ++ more) r.whole r.next r.front =
-        cut_runs enhanced (lanes_count lanes) k.0 (sets ++ more) r.whole r.next r.front k.1 r.cut in
+    cut_runs enhanced (lanes_count lanes) k.0 (sets ++ more) r.whole r.next r.front k.1 r.cut in
     let xs : List Token = take (length sets) all.taken in
     let ys : List Token = drop (length sets) all.taken in
     let split : IsSplit enhanced (suc k.0) (36 / lanes_count lanes) [] start xs ys r.whole all.place =
     run_split enhanced (suc k.0) (36 / lanes_count lanes) xs ys r.whole all.place [] start
     (ap (run enhanced (suc k.0) (36 / lanes_count lanes) [] start) (take-append-drop (length sets) all.taken)
-        ∙ all.reached) in
+    ∙ all.reached) in
     let reads : Reads enhanced (lanes_count lanes) sets split.middle split.place = record {
       tokens = xs;
       sets_are = sym (take-map (token_set (lanes_count lanes)) (length sets) all.taken)
@@ -150,13 +150,13 @@ fronts_are_accepted enhanced lanes sets more (frames, tail, r) =
       reached = ap (λ b. run enhanced b (36 / lanes_count lanes) [] start xs) k.1 ∙ split.first;
     } in
     let cut : ReadCut enhanced (lanes_count lanes) sets split.middle split.place =
-        reads_cut enhanced lanes sets split.middle split.place reads in
+    reads_cut enhanced lanes sets split.middle split.place reads in
     let told : Holds (lanes_count lanes) (r.whole ++ begun_of all.place) =
     subst (λ ps. Holds (lanes_count lanes) (r.whole ++ ps)) (sym all.tells)
-        (record { ids = r.one_id; frames = frames; are = r.are_frames }) in
+    (record { ids = r.one_id; frames = frames; are = r.are_frames }) in
     let held : Holds (lanes_count lanes) (split.middle ++ begun_of split.place) =
     run_held enhanced (lanes_count lanes) (suc k.0)
-        (36 / lanes_count lanes) ys r.whole all.place split.middle split.place split.rest told in
+    (36 / lanes_count lanes) ys r.whole all.place split.middle split.place split.rest told in
     let here : Holds (lanes_count lanes) (split.middle ++ begun cut.next cut.front) =
     subst (λ ps. Holds (lanes_count lanes) (split.middle ++ ps)) (sym cut.tells) held in (
       here.frames,

@@ -74,7 +74,7 @@ place_of b showing = active
 ids_run : (enhanced : Bool) (b a n : ℕ) (whole : List Part) (rows rs : List (List ℕ)) (ts : List Token)
     → length rs ≡ suc n
     → run enhanced b a whole (ids rows (suc n)) (map row rs ++ ts)
-        ≡ run enhanced b a (whole ++ block (rows ++ rs) ∷ []) blank ts
+    ≡ run enhanced b a (whole ++ block (rows ++ rs) ∷ []) blank ts
 ids_run enhanced b a n whole rows [] ts h = absurd (omega arith)
 ids_run enhanced b a zero whole rows (r ∷ []) ts h = refl
 ids_run enhanced b a zero whole rows (r ∷ q ∷ rs) ts h = absurd (omega arith)
@@ -85,7 +85,7 @@ ids_run enhanced b a (suc n) whole rows (r ∷ rs) ts h =
 numbers_run : (enhanced : Bool) (b a n : ℕ) (whole : List Part) (rows rs : List (List ℕ)) (ts : List Token)
     → length rs ≡ n
     → run enhanced b a whole (numbers rows n) (map row rs ++ code an_se ∷ ts)
-        ≡ run enhanced b a (whole ++ attributes (rows ++ rs) ∷ []) blank ts
+    ≡ run enhanced b a (whole ++ attributes (rows ++ rs) ∷ []) blank ts
 numbers_run enhanced b a zero whole rows [] ts h =
     ap (λ xs. run enhanced b a (whole ++ attributes xs ∷ []) blank ts) (sym (append-nil rows))
 numbers_run enhanced b a (suc n) whole rows [] ts h = absurd (omega arith)
@@ -96,7 +96,7 @@ numbers_run enhanced b a (suc n) whole rows (r ∷ rs) ts h =
 
 packet_run : (enhanced : Bool) (b a : ℕ) (whole : List Part) (rows rs : List (List ℕ)) (ts : List Token)
     → run enhanced b a whole (packet rows) (map row rs ++ code an_se ∷ ts)
-        ≡ run enhanced b a (whole ++ secondary (rows ++ rs) ∷ []) blank ts
+    ≡ run enhanced b a (whole ++ secondary (rows ++ rs) ∷ []) blank ts
 packet_run enhanced b a whole rows [] ts =
     ap (λ xs. run enhanced b a (whole ++ secondary xs ∷ []) blank ts) (sym (append-nil rows))
 packet_run enhanced b a whole rows (r ∷ rs) ts =
@@ -105,7 +105,7 @@ packet_run enhanced b a whole rows (r ∷ rs) ts =
 
 fill_run : (enhanced : Bool) (b a : ℕ) (whole : List Part) (rows rs : List (List ℕ)) (ts : List Token)
     → run enhanced b a whole (fill rows) (map row rs ++ code an_fe ∷ ts)
-        ≡ run enhanced b a (whole ++ stuffing (Some (rows ++ rs)) ∷ []) active ts
+    ≡ run enhanced b a (whole ++ stuffing (Some (rows ++ rs)) ∷ []) active ts
 fill_run enhanced b a whole rows [] ts = ap (λ xs. run enhanced b a (whole ++ stuffing (Some xs) ∷ []) active ts)
     (sym (append-nil rows))
 fill_run enhanced b a whole rows (r ∷ rs) ts =
@@ -117,7 +117,7 @@ fill_run enhanced b a whole rows (r ∷ rs) ts =
 part_run : (enhanced : Bool) (lanes k : ℕ) (m : Mode) (x : Part) (whole : List Part) (ts : List Token)
     → 12 / lanes ≡ suc k → Follows lanes m x
     → run enhanced (suc k) (36 / lanes) whole (place_of (suc k) m) (tokens enhanced x ++ ts)
-        ≡ run enhanced (suc k) (36 / lanes) (whole ++ x ∷ []) (place_of (suc k) (after x)) ts
+    ≡ run enhanced (suc k) (36 / lanes) (whole ++ x ∷ []) (place_of (suc k) (after x)) ts
 part_run true lanes k opening (group true) whole ts e f = refl
 part_run false lanes k opening (group true) whole ts e f = refl
 part_run enhanced lanes k opening (group false) whole ts e f = absurd (different f)
@@ -133,12 +133,12 @@ part_run false lanes k blanking (group false) whole ts e f = refl
 part_run enhanced lanes k blanking (filler bytes) whole ts e f = refl
 part_run enhanced lanes k blanking (attributes rows) whole ts e f =
     ap (λ xs. run enhanced (suc k) (36 / lanes) whole (numbers [] (36 / lanes)) xs)
-        (append_assoc (map row rows) (code an_se ∷ []) ts)
+    (append_assoc (map row rows) (code an_se ∷ []) ts)
     ∙ numbers_run enhanced (suc k) (36 / lanes) (36 / lanes) whole [] rows ts f.1
 part_run enhanced lanes k blanking (secondary []) whole ts e f = absurd (omega (arith, f.1))
 part_run enhanced lanes k blanking (secondary (r ∷ rows)) whole ts e f =
     ap (λ xs. run enhanced (suc k) (36 / lanes) whole (packet (r ∷ [])) xs)
-        (append_assoc (map row rows) (code an_se ∷ []) ts)
+    (append_assoc (map row rows) (code an_se ∷ []) ts)
     ∙ packet_run enhanced (suc k) (36 / lanes) whole (r ∷ []) rows ts
 part_run enhanced lanes k blanking begins whole ts e f = refl
 part_run true lanes k showing (group true) whole ts e f = refl
@@ -181,8 +181,8 @@ chain_run enhanced lanes k m [] whole ts e c =
     ap (λ w. run enhanced (suc k) (36 / lanes) w (place_of (suc k) m) ts) (sym (append-nil whole))
 chain_run enhanced lanes k m (x ∷ xs) whole ts e c =
     ap (λ us. run enhanced (suc k) (36 / lanes) whole (place_of (suc k) m) us)
-        (append_assoc (tokens enhanced x) (flat_map (tokens enhanced) xs) ts)
+    (append_assoc (tokens enhanced x) (flat_map (tokens enhanced) xs) ts)
     ∙ part_run enhanced lanes k m x whole (flat_map (tokens enhanced) xs ++ ts) e c.0
     ∙ chain_run enhanced lanes k (after x) xs (whole ++ x ∷ []) ts e c.1
     ∙ ap (λ w. run enhanced (suc k) (36 / lanes) w (place_of (suc k) (end (after x) xs)) ts)
-        (append_assoc whole (x ∷ []) xs)
+    (append_assoc whole (x ∷ []) xs)

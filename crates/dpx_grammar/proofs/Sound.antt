@@ -1,17 +1,17 @@
--- What the machine reads is a prefix of a list of periods.
-use Rattle.std.proofs.Common.{ℕ, zero, suc, ◌+◌, ◌/◌, ◌≤◌, ◌≡◌, ◌≢◌, ◌∙◌, Bool, true, false, List, [], ◌∷◌, ◌++◌, map}
-use Rattle.std.proofs.Common.{length, replicate, Option, Some, None, refl, sym, ap, subst, arith, append_assoc}
+-- What the states have read is spelled by its parts.
+use Rattle.std.proofs.Common.{ℕ, zero, suc, ◌+◌, ◌/◌, ◌≤◌, ◌≡◌, ◌∙◌, Bool, true, false, List, [], ◌∷◌, ◌++◌, map}
+use Rattle.std.proofs.Common.{length, Option, Some, None, refl, sym, ap, subst, arith, append_assoc}
 use Rattle.std.proofs.Common.{length-append}
 use Rattle.std.specs.Prelude.{⊤}
 use Rattle.std.specs.List.{AllByRecursion, flat_map}
-use Rattle.std.proofs.lemmas.List.{append-nil, map-append, length-map, length-replicate, take_at}
-use Rattle.dpx_grammar.specs.Parts.{Part, group, block, filler, attributes, secondary, valid, stuffing, AreRows}
-use Rattle.dpx_grammar.specs.Machine.{begun_of, a_bs, a_sr, a_be, an_ss, an_se, an_fs, an_fe, a_bf, Token, row, code}
+use Rattle.std.proofs.lemmas.List.{append-nil, map-append}
+use Rattle.dpx_grammar.specs.Parts.{Part, AreRows}
+use Rattle.dpx_grammar.specs.Machine.{a_bs, a_sr, a_be, an_ss, an_se, an_fs, an_fe, a_bf, Token, row, code}
 use Rattle.dpx_grammar.specs.Machine.{IsToken, Place, start, head, ids, blank, opened, numbers, packet, active, fill}
 use Rattle.dpx_grammar.specs.Machine.{step, run, go_on}
-use Rattle.dpx_grammar.proofs.Cuts.{told_in}
 use Rattle.dpx_grammar.proofs.Runs.{tokens, Mode, opening, headed, blanking, showing, after, Follows, Chain, end}
 
+-- ---- steps
 -- the tokens that have been read of the next part
 abbrev pub front_of : Place → List Token
 front_of start = []
@@ -52,7 +52,7 @@ Takes enhanced lanes m s t None = ⊤
 Takes enhanced lanes m s t (Some (None, now)) = At enhanced lanes m now × (front_of now ≡ front_of s ++ t ∷ [])
 Takes enhanced lanes m s t (Some (Some part, now)) =
     Follows lanes m part × (tokens enhanced part ≡ front_of s ++ t ∷ []) × At enhanced lanes (after part) now
-        × (front_of now ≡ [])
+    × (front_of now ≡ [])
 
 one_row : (lanes : ℕ) (rows : List (List ℕ)) (bytes : List ℕ) → AreRows lanes rows → length bytes ≡ lanes
     → AreRows lanes (rows ++ bytes ∷ [])
@@ -65,7 +65,7 @@ row_end rows bytes = map-append row rows (bytes ∷ [])
 longer : {X : Type 0} (xs : List X) (x : X) → length (xs ++ x ∷ []) ≡ length xs + 1
 longer xs x = length-append xs (x ∷ [])
 
-different : false ≡ true → ⊥
+pub different : false ≡ true → ⊥
 different e = cc
 
 step_head : (enhanced : Bool) (lanes : ℕ) (m : Mode) (reset : Bool) (n : ℕ) (t : Token)
@@ -110,9 +110,10 @@ step_ids enhanced lanes showing rows n t h g = absurd h
 step_numbers : (enhanced : Bool) (lanes : ℕ) (m : Mode) (rows : List (List ℕ)) (n : ℕ) (t : Token)
     → At enhanced lanes m (numbers rows n) → IsToken lanes t
     → Takes enhanced lanes m (numbers rows n) t (step enhanced (12 / lanes) (36 / lanes) (numbers rows n) t)
-step_numbers enhanced lanes blanking rows (suc n) (row bytes) h g =
-    ((one_row lanes rows bytes h.0 g, omega (arith, longer rows bytes, h.1)),
-        ap (λ xs. code an_ss ∷ code an_ss ∷ xs) (row_end rows bytes))
+step_numbers enhanced lanes blanking rows (suc n) (row bytes) h g = (
+  (one_row lanes rows bytes h.0 g, omega (arith, longer rows bytes, h.1)),
+  ap (λ xs. code an_ss ∷ code an_ss ∷ xs) (row_end rows bytes),
+)
 step_numbers enhanced lanes blanking rows zero (code an_se) h g = ((h.0, omega (arith, h.1)), refl, tt, refl)
 step_numbers enhanced lanes blanking rows n t h g = tt
 step_numbers enhanced lanes opening rows n t h g = absurd h
@@ -122,9 +123,10 @@ step_numbers enhanced lanes showing rows n t h g = absurd h
 step_packet : (enhanced : Bool) (lanes : ℕ) (m : Mode) (rows : List (List ℕ)) (t : Token)
     → At enhanced lanes m (packet rows) → IsToken lanes t
     → Takes enhanced lanes m (packet rows) t (step enhanced (12 / lanes) (36 / lanes) (packet rows) t)
-step_packet enhanced lanes blanking rows (row bytes) h g =
-    ((one_row lanes rows bytes h.0 g, omega (arith, longer rows bytes, h.1)),
-        ap (λ xs. code an_ss ∷ xs) (row_end rows bytes))
+step_packet enhanced lanes blanking rows (row bytes) h g = (
+  (one_row lanes rows bytes h.0 g, omega (arith, longer rows bytes, h.1)),
+  ap (λ xs. code an_ss ∷ xs) (row_end rows bytes),
+)
 step_packet enhanced lanes blanking rows (code an_se) h g = ((h.0, h.1), refl, tt, refl)
 step_packet enhanced lanes blanking rows t h g = tt
 step_packet enhanced lanes opening rows t h g = absurd h
@@ -195,10 +197,10 @@ ran_more : (enhanced : Bool) (lanes : ℕ) (m : Mode) (s : Place) (t : Token) (t
     (now : Place) (o : Option (Option Part × Place))
     → Takes enhanced lanes m s t o
     → ((m : Mode) (s : Place) (whole : List Part) → At enhanced lanes m s
-        → run enhanced (12 / lanes) (36 / lanes) whole s ts ≡ Some (ended, now)
-        → Ran enhanced lanes m s ts whole ended now)
+    → run enhanced (12 / lanes) (36 / lanes) whole s ts ≡ Some (ended, now)
+    → Ran enhanced lanes m s ts whole ended now)
     → go_on whole o (λ w p. run enhanced (12 / lanes) (36 / lanes) w p ts) ≡ Some (ended, now)
-        → Ran enhanced lanes m s (t ∷ ts) whole ended now
+    → Ran enhanced lanes m s (t ∷ ts) whole ended now
 ran_more enhanced lanes m s t ts whole ended now None h more e = absurd (no_some (ended, now) e)
 ran_more enhanced lanes m s t ts whole ended now (Some (None, next)) h more e =
     let r : Ran enhanced lanes m next ts whole ended now = more m next whole h.0 e in
@@ -211,7 +213,7 @@ ran_more enhanced lanes m s t ts whole ended now (Some (None, next)) h more e =
     }
 ran_more enhanced lanes m s t ts whole ended now (Some (Some part, next)) h more e =
     let r : Ran enhanced lanes (after part) next ts (whole ++ part ∷ []) ended now =
-        more (after part) next (whole ++ part ∷ []) h.2 e in
+    more (after part) next (whole ++ part ∷ []) h.2 e in
     let rest : ts ≡ flat_map (tokens enhanced) r.parts ++ front_of now = ap (λ xs. xs ++ ts) (sym h.3) ∙ r.spelled in
     record {
       parts = part ∷ r.parts;
@@ -220,15 +222,15 @@ ran_more enhanced lanes m s t ts whole ended now (Some (Some part, next)) h more
       stands = r.stands;
       spelled =
           sym (append_assoc (front_of s) (t ∷ []) ts) ∙ ap (λ xs. xs ++ ts) (sym h.1)
-              ∙ ap (λ xs. tokens enhanced part ++ xs) rest
+          ∙ ap (λ xs. tokens enhanced part ++ xs) rest
           ∙ sym (append_assoc (tokens enhanced part) (flat_map (tokens enhanced) r.parts) (front_of now));
     }
 
 pub run_sound : (enhanced : Bool) (lanes : ℕ) (ts : List Token) (ended : List Part) (now : Place)
     → AllByRecursion (IsToken lanes) ts → 1 ≤ 12 / lanes
     → (m : Mode) (s : Place) (whole : List Part) → At enhanced lanes m s
-        → run enhanced (12 / lanes) (36 / lanes) whole s ts ≡ Some (ended, now)
-        → Ran enhanced lanes m s ts whole ended now
+    → run enhanced (12 / lanes) (36 / lanes) whole s ts ≡ Some (ended, now)
+    → Ran enhanced lanes m s ts whole ended now
 run_sound enhanced lanes [] ended now good b m s whole h e =
     let p = some_is (whole, s) (ended, now) e in
     let w : whole ≡ ended = ap (λ x. x.0) p in
@@ -242,127 +244,4 @@ run_sound enhanced lanes [] ended now good b m s whole h e =
     }
 run_sound enhanced lanes (t ∷ ts) ended now good b m s whole h e =
     ran_more enhanced lanes m s t ts whole ended now (step enhanced (12 / lanes) (36 / lanes) s t)
-        (step_takes enhanced lanes m s t h good.0 b) (run_sound enhanced lanes ts ended now good.1 b) e
-
--- ---- each place can be gone on from
-
-pub record Goes (enhanced : Bool) (lanes : ℕ) (m : Mode) (s : Place) : Type 0 where
-  pub next : Part
-  pub back : List Token
-  pub follows : Follows lanes m next
-  pub spelled : tokens enhanced next ≡ front_of s ++ back
-  pub unfinished : back ≢ []
-  pub tells : told_in next (length (front_of s)) ≡ begun_of s
-
-pub zeros : ℕ → List ℕ
-zeros lanes = replicate lanes 0
-
-pub zero_rows : (lanes n : ℕ) → AreRows lanes (replicate n (zeros lanes))
-unfolding zeros
-zero_rows lanes zero = tt
-zero_rows lanes (suc n) = (length-replicate lanes 0, zero_rows lanes n)
-
-rows_join : (lanes : ℕ) (xs ys : List (List ℕ)) → AreRows lanes xs → AreRows lanes ys → AreRows lanes (xs ++ ys)
-rows_join lanes [] ys a b = b
-rows_join lanes (x ∷ xs) ys a b = (a.0, rows_join lanes xs ys a.1 b)
-
-some_cons : {X : Type 0} (x : X) (xs : List X) → x ∷ xs ≢ []
-some_cons x xs = λ e. cc
-
-some_append : {X : Type 0} (x : X) (xs : List X) → xs ++ x ∷ [] ≢ []
-some_append x [] = some_cons x []
-some_append x (y ∷ ys) = some_cons y (ys ++ x ∷ [])
-
-some_rows : (lanes n : ℕ) → 1 ≤ n → map row (replicate n (zeros lanes)) ≢ []
-some_rows lanes zero h = absurd (omega arith)
-some_rows lanes (suc n) h = some_cons (row (zeros lanes)) (map row (replicate n (zeros lanes)))
-
-head_goes : (lanes : ℕ) (m : Mode) (reset : Bool) (n : ℕ) → 1 ≤ n → n ≤ 3 → Follows lanes m (group reset)
-    → Goes true lanes m (head reset n)
-head_goes lanes m true (suc zero) a b f =
-    record { next = group true; back = code a_bf ∷ code a_bf ∷ code a_sr ∷ []; follows = f; spelled = refl; unfinished =
-        some_cons _ _; tells = refl }
-head_goes lanes m true (suc (suc zero)) a b f =
-    record { next = group true; back = code a_bf ∷ code a_sr ∷ []; follows = f; spelled = refl; unfinished =
-        some_cons _ _; tells = refl }
-head_goes lanes m true (suc (suc (suc zero))) a b f =
-    record { next = group true; back = code a_sr ∷ []; follows = f; spelled = refl; unfinished = some_cons _ _; tells =
-        refl }
-head_goes lanes m false (suc zero) a b f =
-    record { next = group false; back = code a_bf ∷ code a_bf ∷ code a_bs ∷ []; follows = f; spelled = refl;
-        unfinished = some_cons _ _; tells = refl }
-head_goes lanes m false (suc (suc zero)) a b f =
-    record { next = group false; back = code a_bf ∷ code a_bs ∷ []; follows = f; spelled = refl; unfinished =
-        some_cons _ _; tells = refl }
-head_goes lanes m false (suc (suc (suc zero))) a b f =
-    record { next = group false; back = code a_bs ∷ []; follows = f; spelled = refl; unfinished = some_cons _ _; tells =
-        refl }
-head_goes lanes m reset zero a b f = absurd (omega arith)
-head_goes lanes m reset (suc (suc (suc (suc n)))) a b f = absurd (omega arith)
-
-ids_tell : (rows zs : List (List ℕ)) (n : ℕ)
-    → told_in (block (rows ++ zs)) (length (map row rows)) ≡ begun_of (ids rows n)
-ids_tell [] zs n = refl
-ids_tell (r ∷ rows) zs n = ap (λ xs. block (r ∷ xs) ∷ [])
-    (take_at rows zs (length (map row rows)) (sym (length-map rows row)))
-
-pub goes : (enhanced : Bool) (lanes : ℕ) (m : Mode) (s : Place) → At enhanced lanes m s → Goes enhanced lanes m s
-unfolding zeros
-goes true lanes opening start h =
-    record { next = group true; back = code a_sr ∷ code a_bf ∷ code a_bf ∷ code a_sr ∷ []; follows = refl; spelled =
-        refl; unfinished = some_cons _ _; tells = refl }
-goes false lanes opening start h =
-    record { next = group true; back = code a_sr ∷ []; follows = refl; spelled = refl; unfinished = some_cons _ _;
-        tells = refl }
-goes true lanes opening (head reset n) h = head_goes lanes opening reset n h.2 h.3 h.1
-goes true lanes blanking (head reset n) h = head_goes lanes blanking reset n h.1 h.2 tt
-goes true lanes showing (head reset n) h = head_goes lanes showing reset n h.1 h.2 tt
-goes false lanes opening (head reset n) h = absurd (different h.0)
-goes false lanes blanking (head reset n) h = absurd (different h.0)
-goes false lanes showing (head reset n) h = absurd (different h.0)
-goes enhanced lanes headed (ids rows n) h = record {
-  next = block (rows ++ replicate n (zeros lanes));
-  back = map row (replicate n (zeros lanes));
-  follows = (
-    rows_join lanes rows (replicate n (zeros lanes)) h.0 (zero_rows lanes n),
-    omega (arith, length-append rows (replicate n (zeros lanes)), length-replicate n (zeros lanes), h.1),
-  );
-  spelled = map-append row rows (replicate n (zeros lanes));
-  unfinished = some_rows lanes n h.2;
-  tells = ids_tell rows (replicate n (zeros lanes)) n;
-}
-goes enhanced lanes blanking blank h =
-    record { next = filler (zeros lanes); back = row (zeros lanes) ∷ []; follows = length-replicate lanes 0; spelled =
-        refl; unfinished = some_cons _ _; tells = refl }
-goes enhanced lanes blanking opened h = record {
-  next = secondary (zeros lanes ∷ []);
-  back = row (zeros lanes) ∷ code an_se ∷ [];
-  follows = ((length-replicate lanes 0, tt), omega arith);
-  spelled = refl;
-  unfinished = some_cons _ _;
-  tells = refl;
-}
-goes enhanced lanes blanking (numbers rows n) h = record {
-  next = attributes (rows ++ replicate n (zeros lanes));
-  back = map row (replicate n (zeros lanes)) ++ code an_se ∷ [];
-  follows = (
-    rows_join lanes rows (replicate n (zeros lanes)) h.0 (zero_rows lanes n),
-    omega (arith, length-append rows (replicate n (zeros lanes)), length-replicate n (zeros lanes), h.1),
-  );
-  spelled =
-      ap (λ xs. code an_ss ∷ code an_ss ∷ (xs ++ code an_se ∷ [])) (map-append row rows (replicate n (zeros lanes)))
-      ∙ ap (λ xs. code an_ss ∷ code an_ss ∷ xs)
-          (append_assoc (map row rows) (map row (replicate n (zeros lanes))) (code an_se ∷ []));
-  unfinished = some_append (code an_se) (map row (replicate n (zeros lanes)));
-  tells = refl;
-}
-goes enhanced lanes blanking (packet rows) h =
-    record { next = secondary rows; back = code an_se ∷ []; follows = h; spelled = refl; unfinished = some_cons _ _;
-        tells = refl }
-goes enhanced lanes showing active h =
-    record { next = valid (zeros lanes); back = row (zeros lanes) ∷ []; follows = length-replicate lanes 0; spelled =
-        refl; unfinished = some_cons _ _; tells = refl }
-goes enhanced lanes showing (fill rows) h =
-    record { next = stuffing (Some rows); back = code an_fe ∷ []; follows = h; spelled = refl; unfinished =
-        some_cons _ _; tells = refl }
-goes enhanced lanes m s h = absurd h
+    (step_takes enhanced lanes m s t h good.0 b) (run_sound enhanced lanes ts ended now good.1 b) e

@@ -1,7 +1,7 @@
 -- What is received of a list of sets is one.
 use Rattle.std.proofs.Common.{ℕ, zero, suc, ◌+◌, ◌/◌, ◌<◌, ◌≤◌, ◌≡◌, ◌≢◌, ◌∙◌, Bool, true, false, List, [], ◌∷◌, ◌++◌}
 use Rattle.std.proofs.Common.{map, length, take, Option, Some, None, Ok, refl, sym, ap, subst, arith, length-append}
-use Rattle.std.specs.Prelude.{Result, ⊤, ◌==◌, if◌then◌else◌}
+use Rattle.std.specs.Prelude.{Result, ◌==◌, if◌then◌else◌}
 use Rattle.std.specs.List.{AllByRecursion, flat_map}
 use Rattle.std.proofs.lemmas.List.{length-map, map-append, take-map, take_at}
 use Rattle.dpx_base.specs.declared.lanes.Lanes.{Lanes}
@@ -32,7 +32,7 @@ ended_sets : (lanes : ℕ) (rows : List (List ℕ)) (c : Code)
     → map (token_set lanes) (map row rows ++ code c ∷ []) ≡ map data_set rows ++ control_set lanes (byte_of c) ∷ []
 ended_sets lanes rows c =
     map-append (token_set lanes) (map row rows) (code c ∷ [])
-        ∙ ap (λ xs. xs ++ control_set lanes (byte_of c) ∷ []) (rows_sets lanes rows)
+    ∙ ap (λ xs. xs ++ control_set lanes (byte_of c) ∷ []) (rows_sets lanes rows)
 
 pub part_sets : (enhanced : Bool) (lanes : ℕ) (x : Part)
     → map (token_set lanes) (tokens enhanced x) ≡ sets_of enhanced lanes x
@@ -64,9 +64,9 @@ parts_sets enhanced lanes (x ∷ xs) =
 code_of : ℕ → Option Code
 code_of n =
     if n == 0xbc then Some a_bs else if n == 0x1c then Some a_sr else if n == 0xfb then Some a_be else if n ==
-        0x5c then Some an_ss
+    0x5c then Some an_ss
     else if n == 0xfd then Some an_se else if n == 0xfe then Some an_fs else if n == 0xf7 then Some an_fe else if n ==
-        0x7c then Some a_bf else None
+    0x7c then Some a_bf else None
 
 code_back : (c : Code) → code_of (byte_of c) ≡ Some c
 unfolding code_of
@@ -131,7 +131,7 @@ tokens_one n (t ∷ ts) [] g h e = absurd (empty _ _ (sym e))
     empty x xs e = cc
 tokens_one n (t ∷ ts) (u ∷ us) g h e =
     let c = cons_one (token_set (suc n) t) (token_set (suc n) u) (map (token_set (suc n)) ts)
-        (map (token_set (suc n)) us) e in
+    (map (token_set (suc n)) us) e in
     ap (λ x. x ∷ ts) (token_one n t u g.0 h.0 c.0) ∙ ap (λ xs. u ∷ xs) (tokens_one n ts us g.1 h.1 c.1)
 
 -- ---- the tokens of parts are good
@@ -173,7 +173,7 @@ chain_good : (enhanced : Bool) (lanes : ℕ) (m : Mode) (xs : List Part) → Cha
 chain_good enhanced lanes m [] c = tt
 chain_good enhanced lanes m (x ∷ xs) c =
     all_append (IsToken lanes) (tokens enhanced x) (flat_map (tokens enhanced) xs) (part_good enhanced lanes m x c.0)
-        (chain_good enhanced lanes (after x) xs c.1)
+    (chain_good enhanced lanes (after x) xs c.1)
 
 pub all_take : {X : Type 0} (P : X → Type 0) (n : ℕ) (xs : List X) → AllByRecursion P xs → AllByRecursion P (take n xs)
 all_take P zero xs h = tt
@@ -201,33 +201,33 @@ pub cut_runs : (enhanced : Bool) (lanes k : ℕ) (sets : List (List Sym)) (whole
 cut_runs enhanced lanes k sets whole next front e cut =
     let n : ℕ = length front in
     let chain : Chain lanes opening (whole ++ next ∷ cut.more) =
-        is_chain lanes (whole ++ next ∷ cut.more) cut.are_periods in
+    is_chain lanes (whole ++ next ∷ cut.more) cut.are_periods in
     let parts = chain_cut lanes opening whole (next ∷ cut.more) chain in
     let follows : Follows lanes (end opening whole) next = parts.1.0 in
     let size : length (tokens enhanced next) ≡ length front + length cut.back =
     sym (length-map (tokens enhanced next) (token_set lanes)) ∙ ap length (part_sets enhanced lanes next)
-        ∙ ap length cut.of_next ∙ length-append front cut.back in
+    ∙ ap length cut.of_next ∙ length-append front cut.back in
     let short : length front < length (tokens enhanced next) = omega (arith, some_left cut.back cut.unfinished) in
     let stops : Stops enhanced (suc k) (36 / lanes) whole (place_of (suc k) (end opening whole))
-        (take (length front) (tokens enhanced next)) (told_in next (length front)) =
+    (take (length front) (tokens enhanced next)) (told_in next (length front)) =
     part_stops enhanced lanes k (length front) (end opening whole) next whole e follows short in
     let fronts : map (token_set lanes) (take (length front) (tokens enhanced next)) ≡ front =
     sym (take-map (token_set lanes) (length front) (tokens enhanced next))
     ∙ ap (take (length front)) (part_sets enhanced lanes next ∙ cut.of_next)
-        ∙ take_at front cut.back (length front) refl in
+    ∙ take_at front cut.back (length front) refl in
     record {
       taken = flat_map (tokens enhanced) whole ++ take (length front) (tokens enhanced next);
       taken_sets =
           map-append (token_set lanes) (flat_map (tokens enhanced) whole) (take (length front) (tokens enhanced next))
           ∙ ap (λ xs. xs ++ map (token_set lanes) (take (length front) (tokens enhanced next)))
-              (parts_sets enhanced lanes whole)
+          (parts_sets enhanced lanes whole)
           ∙ ap (λ xs. flat_map (sets_of enhanced lanes) whole ++ xs) fronts
           ∙ sym cut.joined;
       good =
           all_append (IsToken lanes) (flat_map (tokens enhanced) whole) (take (length front) (tokens enhanced next))
           (chain_good enhanced lanes opening whole parts.0)
-              (all_take (IsToken lanes) (length front) (tokens enhanced next)
-              (part_good enhanced lanes (end opening whole) next follows));
+          (all_take (IsToken lanes) (length front) (tokens enhanced next)
+          (part_good enhanced lanes (end opening whole) next follows));
       place = stops.place;
       reached = chain_run enhanced lanes k opening whole [] (take (length front) (tokens enhanced next)) e parts.0
           ∙ stops.reached;
@@ -260,32 +260,32 @@ runs_same : (enhanced : Bool) (n k : ℕ) (sets : List (List Sym)) (whole others
 runs_same enhanced n k sets whole others next other front back r s =
     let ts : r.taken ≡ s.taken = tokens_one n r.taken s.taken r.good s.good (r.taken_sets ∙ sym s.taken_sets) in
     let p = pair_one whole others r.place s.place
-        (sym r.reached ∙ ap (run enhanced (suc k) (36 / suc n) [] start) ts ∙ s.reached) in
+    (sym r.reached ∙ ap (run enhanced (suc k) (36 / suc n) [] start) ts ∙ s.reached) in
     (p.0, sym r.tells ∙ ap begun_of p.1 ∙ s.tells)
 
 cuts_same : (enhanced : Bool) (lanes : Lanes) (sets : List (List Sym)) (whole others : List Part) (next other : Part)
     (front back : List (List Sym))
     → IsCut enhanced (lanes_count lanes) sets whole next front
-        → IsCut enhanced (lanes_count lanes) sets others other back
+    → IsCut enhanced (lanes_count lanes) sets others other back
     → (whole ++ begun next front ≡ others ++ begun other back) × (length front ≡ length back)
 cuts_same enhanced lanes sets whole others next other front back c d =
     let b = blocks lanes in
     let l = some_lanes lanes in
     let r : IsRun enhanced (lanes_count lanes) b.0 sets whole next front =
-        cut_runs enhanced (lanes_count lanes) b.0 sets whole next front b.1 c in
+    cut_runs enhanced (lanes_count lanes) b.0 sets whole next front b.1 c in
     let s : IsRun enhanced (lanes_count lanes) b.0 sets others other back =
-        cut_runs enhanced (lanes_count lanes) b.0 sets others other back b.1 d in
+    cut_runs enhanced (lanes_count lanes) b.0 sets others other back b.1 d in
     let same : (whole ≡ others) × (begun next front ≡ begun other back) =
     runs_same enhanced l.0 b.0 sets whole others next other front back
     (subst (λ m. IsRun enhanced m b.0 sets whole next front) l.1 r)
-        (subst (λ m. IsRun enhanced m b.0 sets others other back) l.1 s) in
+    (subst (λ m. IsRun enhanced m b.0 sets others other back) l.1 s) in
     let size : length (flat_map (sets_of enhanced (lanes_count lanes)) whole) + length front
-        ≡ length (flat_map (sets_of enhanced (lanes_count lanes)) others) + length back =
+    ≡ length (flat_map (sets_of enhanced (lanes_count lanes)) others) + length back =
     sym (length-append (flat_map (sets_of enhanced (lanes_count lanes)) whole) front)
-        ∙ ap length (sym c.joined ∙ d.joined)
+    ∙ ap length (sym c.joined ∙ d.joined)
     ∙ length-append (flat_map (sets_of enhanced (lanes_count lanes)) others) back in
     let wholes : length (flat_map (sets_of enhanced (lanes_count lanes)) whole)
-        ≡ length (flat_map (sets_of enhanced (lanes_count lanes)) others) =
+    ≡ length (flat_map (sets_of enhanced (lanes_count lanes)) others) =
     ap (λ w. length (flat_map (sets_of enhanced (lanes_count lanes)) w)) same.0 in
     (ap (λ w. w ++ begun next front) same.0 ∙ ap (λ t. others ++ t) same.1, omega arith)
 
@@ -302,7 +302,7 @@ frame_one : (lanes : ℕ) (t : FrameParts) (f g : Frame) → IsFrame lanes t f �
 frame_one lanes t f g h k =
     let a : f.attributes ≡ g.attributes = ok_one f.attributes g.attributes _ h.read k.read in
     same_frame f.attributes g.attributes f.lines g.lines a
-        (h.lines ∙ ap (λ b. pixels_of lanes b t.lines) a ∙ sym k.lines)
+    (h.lines ∙ ap (λ b. pixels_of lanes b t.lines) a ∙ sym k.lines)
 
 frames_one : (lanes : ℕ) (ts : List FrameParts) (fs gs : List Frame) → AreFrames lanes ts fs → AreFrames lanes ts gs
     → fs ≡ gs
@@ -326,5 +326,5 @@ is_one enhanced lanes sets frames others tail other r s =
           (subst (λ parts. AreFrames (lanes_count lanes) (frame_parts parts) frames) same.0 r.are_frames) s.are_frames,
       r.tail_is ∙ ap (λ parts. unfinished enhanced (lanes_count lanes) parts (length r.front)) same.0
           ∙ ap (λ n. unfinished enhanced (lanes_count lanes) (s.whole ++ begun s.next s.front) n) same.1
-              ∙ sym s.tail_is,
+          ∙ sym s.tail_is,
     )

@@ -6,4 +6,4 @@ use Rattle.std.specs.List.{range_with_len}
 unfoldable pub gathered : (lanes : ℕ) → List (List ℕ) → List ℕ
 gathered lanes rows =
     map (λ place. slice_index (slice_index_or rows (place / 9 / lanes * 9 + place % 9) []) (place / 9 % lanes))
-        (range_with_len 0 36)
+    (range_with_len 0 36)

@@ -8,6 +8,4 @@
 
 mod laws;
 
-pub use laws::{
-    default_has_no_bf, fronts_are_accepted, one_reception, states_read_exactly,
-};
+pub use laws::{default_has_no_bf, fronts_are_accepted, one_reception, states_read_exactly};

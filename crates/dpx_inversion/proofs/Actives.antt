@@ -58,9 +58,9 @@ pub line_shown : (r : Timing) (row : ℕ → List ℕ) (empty : List ℕ) → Al
 unfolding shown_line
 line_shown r row empty =
     all_append IsShown (units r row empty (last_unit r))
-        (shown row (carried r (last_unit r)) (symbols r - carried r (last_unit r)))
+    (shown row (carried r (last_unit r)) (symbols r - carried r (last_unit r)))
     (units_are r row empty (last_unit r)) (shown_are row (carried r (last_unit r))
-        (symbols r - carried r (last_unit r)))
+    (symbols r - carried r (last_unit r)))
 
 -- ---- the rows in order
 
@@ -72,7 +72,7 @@ unit_rows : (r : Timing) (row : ℕ → List ℕ) (empty : List ℕ) (k : ℕ)
 unfolding unit_part
 unit_rows r row empty k =
     rows_shown (shown row (carried r k) (share r k)) (stuffing_of empty (r.unit - share r k))
-        (shown_are row (carried r k) (share r k))
+    (shown_are row (carried r k) (share r k))
     ∙ ap (λ xs. valid_rows (shown row (carried r k) (share r k)) ++ xs) (stuffing_rows empty (r.unit - share r k))
     ∙ append-nil (valid_rows (shown row (carried r k) (share r k)))
     ∙ shown_rows row (carried r k) (share r k)
@@ -95,14 +95,14 @@ pub line_rows : (r : Timing) (row : ℕ → List ℕ) (empty : List ℕ) → IsP
 unfolding shown_line
 line_rows r row empty possible =
     rows_shown (units r row empty (last_unit r))
-        (shown row (carried r (last_unit r)) (symbols r - carried r (last_unit r)))
-        (units_are r row empty (last_unit r))
+    (shown row (carried r (last_unit r)) (symbols r - carried r (last_unit r)))
+    (units_are r row empty (last_unit r))
     ∙ ap (λ xs. xs ++ valid_rows (shown row (carried r (last_unit r)) (symbols r - carried r (last_unit r))))
-        (units_rows r row empty (last_unit r) possible)
+    (units_rows r row empty (last_unit r) possible)
     ∙ ap (λ xs. map row (range_with_len 0 (carried r (last_unit r))) ++ xs)
-        (shown_rows row (carried r (last_unit r)) (symbols r - carried r (last_unit r)))
+    (shown_rows row (carried r (last_unit r)) (symbols r - carried r (last_unit r)))
     ∙ sym (map_range_cut row 0 (carried r (last_unit r)) (symbols r) (carried r (last_unit r))
-        (symbols r - carried r (last_unit r))
+    (symbols r - carried r (last_unit r))
     (omega (arith, carried_all r (last_unit r))) (omega arith))
 
 -- ---- they are in the grammar
@@ -123,9 +123,9 @@ pub line_active : (lanes : ℕ) (r : Timing) (row : ℕ → List ℕ) (empty : L
 unfolding shown_line
 line_active lanes r row empty h e =
     all_append (IsActive lanes) (units r row empty (last_unit r))
-        (shown row (carried r (last_unit r)) (symbols r - carried r (last_unit r)))
+    (shown row (carried r (last_unit r)) (symbols r - carried r (last_unit r)))
     (units_active lanes r row empty (last_unit r) h e)
-        (shown_active lanes row (carried r (last_unit r)) (symbols r - carried r (last_unit r)) h)
+    (shown_active lanes row (carried r (last_unit r)) (symbols r - carried r (last_unit r)) h)
 
 -- ---- what holds of each kind holds of all
 
@@ -145,9 +145,9 @@ pub line_all : (P : Part → Type 0) (r : Timing) (row : ℕ → List ℕ) (empt
 unfolding shown_line
 line_all P r row empty v one more =
     all_append P (units r row empty (last_unit r))
-        (shown row (carried r (last_unit r)) (symbols r - carried r (last_unit r)))
+    (shown row (carried r (last_unit r)) (symbols r - carried r (last_unit r)))
     (units_all P r row empty (last_unit r) v one more)
-        (shown_all P row (carried r (last_unit r)) (symbols r - carried r (last_unit r)) v)
+    (shown_all P row (carried r (last_unit r)) (symbols r - carried r (last_unit r)) v)
 
 -- ---- their sets are those of the table
 
@@ -176,13 +176,13 @@ pub record IsLine (p : PlanFacts) (row : ℕ → List ℕ) (at : ℕ → List Sy
   pub stuffed : (k i : ℕ) → k < last_unit (timing p)
       → carried (timing p) (k + 1) ≤ carried (timing p) k + i → i < p.unit
       → at (start (timing p) line + k * p.unit + i)
-          ≡ stuffing_set p (carried (timing p) (k + 1) - carried (timing p) k) i
+      ≡ stuffing_set p (carried (timing p) (k + 1) - carried (timing p) k) i
 
 shown_at : (p : PlanFacts) (row : ℕ → List ℕ) (at : ℕ → List Sym) (line k n : ℕ) → IsPossible (timing p)
     → IsLine p row at line
     → carried (timing p) k + n ≤ carried (timing p) (k + 1)
     → map at (range_with_len (start (timing p) line + k * p.unit) n)
-        ≡ flat_map (sets_of p.link.enhanced (plan_lanes p)) (shown row (carried (timing p) k) n)
+    ≡ flat_map (sets_of p.link.enhanced (plan_lanes p)) (shown row (carried (timing p) k) n)
 shown_at p row at line k n possible is room =
     map_range_same at (λ j. data_set (row j)) (start (timing p) line + k * p.unit) (carried (timing p) k) n
     (λ i l.
@@ -194,65 +194,65 @@ stuffed_at : (p : PlanFacts) (row : ℕ → List ℕ) (at : ℕ → List Sym) (l
     → IsFit (timing p) → IsLine p row at line
     → k < last_unit (timing p)
     → Stuffs (plan_lanes p) (zero_row p) at (start (timing p) line + k * p.unit + share (timing p) k)
-        (p.unit - share (timing p) k)
+    (p.unit - share (timing p) k)
 unfolding share
 stuffed_at p row at line k possible fit is in_line =
     let s : ℕ = start (timing p) line + k * p.unit in
     let v : ℕ = carried (timing p) (k + 1) - carried (timing p) k in
     let up : carried (timing p) k ≤ carried (timing p) (k + 1) =
-        carried_rises (timing p) k (k + 1) possible (omega arith) in
+    carried_rises (timing p) k (k + 1) possible (omega arith) in
     let most : v ≤ p.unit = omega (arith, unit_holds (timing p) k possible fit) in
     record {
       last = λ some.
           let e : s + v + (p.unit - v) - 1 ≡ s + (p.unit - 1) = omega arith in
           ap at e ∙ is.stuffed k (p.unit - 1) in_line (omega arith) (omega arith)
-              ∙ set_last p v (p.unit - 1) (omega arith);
+          ∙ set_last p v (p.unit - 1) (omega arith);
       first = λ some. is.stuffed k v in_line (omega arith) (omega arith) ∙ set_first p v (omega arith);
       middle = λ i from to.
           let e : s + v + i ≡ s + (v + i) = omega arith in
           ap at e ∙ is.stuffed k (v + i) in_line (omega arith) (omega arith)
-              ∙ set_middle p v (v + i) (omega arith) (omega arith);
+          ∙ set_middle p v (v + i) (omega arith) (omega arith);
     }
 
 unit_at : (p : PlanFacts) (row : ℕ → List ℕ) (at : ℕ → List Sym) (line k : ℕ) → IsPossible (timing p) → IsFit (timing p)
     → IsLine p row at line
     → k < last_unit (timing p)
     → map at (range_with_len (start (timing p) line + k * p.unit) p.unit)
-        ≡ flat_map (sets_of p.link.enhanced (plan_lanes p)) (unit_part (timing p) row (zero_row p) k)
+    ≡ flat_map (sets_of p.link.enhanced (plan_lanes p)) (unit_part (timing p) row (zero_row p) k)
 unfolding unit_part
 unit_at p row at line k possible fit is in_line =
     let s : ℕ = start (timing p) line + k * p.unit in
     let v : ℕ = share (timing p) k in
     let up : carried (timing p) k ≤ carried (timing p) (k + 1) =
-        carried_rises (timing p) k (k + 1) possible (omega arith) in
+    carried_rises (timing p) k (k + 1) possible (omega arith) in
     let share_is : carried (timing p) k + v ≡ carried (timing p) (k + 1) = shared (timing p) k up in
     let most : v ≤ p.unit = omega (arith, unit_holds (timing p) k possible fit) in
     map_range_cut at s v p.unit (s + v) (p.unit - v) (omega arith) refl
     ∙ ap (λ xs. xs ++ map at (range_with_len (s + v) (p.unit - v)))
-        (shown_at p row at line k v possible is (omega arith))
+    (shown_at p row at line k v possible is (omega arith))
     ∙ ap (λ xs. flat_map (sets_of p.link.enhanced (plan_lanes p)) (shown row (carried (timing p) k) v) ++ xs)
     (stuffing_sets p.link.enhanced (plan_lanes p) (zero_row p) at (s + v) (p.unit - v)
-        (stuffed_at p row at line k possible fit is in_line))
+    (stuffed_at p row at line k possible fit is in_line))
     ∙ sym (flat_map_append (sets_of p.link.enhanced (plan_lanes p)) (shown row (carried (timing p) k) v)
-        (stuffing_of (zero_row p) (p.unit - v)))
+    (stuffing_of (zero_row p) (p.unit - v)))
 
 units_at : (p : PlanFacts) (row : ℕ → List ℕ) (at : ℕ → List Sym) (line k : ℕ) → IsPossible (timing p)
     → IsFit (timing p) → IsLine p row at line
     → k ≤ last_unit (timing p)
     → map at (range_with_len (start (timing p) line) (k * p.unit))
-        ≡ flat_map (sets_of p.link.enhanced (plan_lanes p)) (units (timing p) row (zero_row p) k)
+    ≡ flat_map (sets_of p.link.enhanced (plan_lanes p)) (units (timing p) row (zero_row p) k)
 unfolding units
 units_at p row at line zero possible fit is in_line = let e : 0 * p.unit ≡ 0 = omega arith in rw e refl
 units_at p row at line (suc k) possible fit is in_line =
     let e : suc k * p.unit ≡ k * p.unit + p.unit = omega arith in
     map_range_cut at (start (timing p) line) (k * p.unit) (suc k * p.unit)
-        (start (timing p) line + k * p.unit) p.unit e refl
+    (start (timing p) line + k * p.unit) p.unit e refl
     ∙ ap (λ xs. xs ++ map at (range_with_len (start (timing p) line + k * p.unit) p.unit))
-        (units_at p row at line k possible fit is (omega arith))
+    (units_at p row at line k possible fit is (omega arith))
     ∙ ap (λ xs. flat_map (sets_of p.link.enhanced (plan_lanes p)) (units (timing p) row (zero_row p) k) ++ xs)
-        (unit_at p row at line k possible fit is (omega arith))
+    (unit_at p row at line k possible fit is (omega arith))
     ∙ sym (flat_map_append (sets_of p.link.enhanced (plan_lanes p)) (units (timing p) row (zero_row p) k)
-        (unit_part (timing p) row (zero_row p) k))
+    (unit_part (timing p) row (zero_row p) k))
 
 pub line_at : (p : PlanFacts) (row : ℕ → List ℕ) (at : ℕ → List Sym) (line : ℕ) → IsPossible (timing p)
     → IsFit (timing p) → IsLine p row at line
@@ -265,12 +265,12 @@ line_at p row at line possible fit is =
     let rest : ℕ = symbols (timing p) - carried (timing p) (last_unit (timing p)) in
     let e : line_end (timing p) ≡ last_unit (timing p) * p.unit + rest = (end_in_last (timing p) possible fit).1 in
     let room : carried (timing p) k + rest ≤ carried (timing p) (k + 1) =
-        omega (arith, last_unit_ends (timing p) possible, carried_all (timing p) k) in
+    omega (arith, last_unit_ends (timing p) possible, carried_all (timing p) k) in
     map_range_cut at (start (timing p) line) (k * p.unit) (line_end (timing p))
-        (start (timing p) line + k * p.unit) rest e refl
+    (start (timing p) line + k * p.unit) rest e refl
     ∙ ap (λ xs. xs ++ map at (range_with_len (start (timing p) line + k * p.unit) rest))
-        (units_at p row at line k possible fit is (omega arith))
+    (units_at p row at line k possible fit is (omega arith))
     ∙ ap (λ xs. flat_map (sets_of p.link.enhanced (plan_lanes p)) (units (timing p) row (zero_row p) k) ++ xs)
-        (shown_at p row at line k rest possible is room)
+    (shown_at p row at line k rest possible is room)
     ∙ sym (flat_map_append (sets_of p.link.enhanced (plan_lanes p)) (units (timing p) row (zero_row p) k)
-        (shown row (carried (timing p) k) rest))
+    (shown row (carried (timing p) k) rest))

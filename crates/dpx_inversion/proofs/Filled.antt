@@ -88,7 +88,7 @@ constant at a (suc n) row h =
     let first : at a ≡ data_set row = ap at (sym z) ∙ h 0 (omega arith) in
     let rest : map at (range_with_len (a + 1) n) ≡ map data_set (replicate n row) =
     constant at (a + 1) n row (λ i l. let e : a + 1 + i ≡ a + suc i = omega arith in
-        ap at e ∙ h (suc i) (omega arith)) in
+    ap at e ∙ h (suc i) (omega arith)) in
     ap (λ s. s ∷ map at (range_with_len (a + 1) n)) first ∙ ap (λ s. data_set row ∷ s) rest
 
 -- the sets that fill up w clocks
@@ -112,7 +112,7 @@ stuffing_sets enhanced lanes empty at a (suc (suc n)) h =
     let last : at (a + 1 + n) ≡ control_set lanes fe = ap at (sym e) ∙ h.last (omega arith) in
     let middle : map at (range_with_len (a + 1) n) ≡ map data_set (replicate n empty) =
     constant at (a + 1) n empty (λ i l. let g : a + 1 + i ≡ a + suc i = omega arith in
-        ap at g ∙ h.middle (suc i) (omega arith) (omega arith)) in
+    ap at g ∙ h.middle (suc i) (omega arith) (omega arith)) in
     let split : map at (range_with_len (a + 1) (suc n)) ≡ map at (range_with_len (a + 1) n) ++ at (a + 1 + n) ∷ [] =
     ap (λ k. map at (range_with_len (a + 1) k)) n1 ∙ map-range_with_len_more at (a + 1) n (a + 1 + n) refl in
     let back : map at (range_with_len (a + 1) (suc n)) ≡ map data_set (replicate n empty) ++ control_set lanes fe ∷ [] =

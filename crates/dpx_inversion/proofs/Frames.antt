@@ -49,7 +49,7 @@ first_is p f y plan within =
     let s : i - (p.mode.vtotal - p.mode.height) ≡ y = omega arith in
     ap (first_pixel p) e
     ∙ ap (λ z. (z * p.mode.height + ((f * p.mode.vtotal + i) % p.mode.vtotal - (p.mode.vtotal - p.mode.height))) *
-        p.mode.width) d
+    p.mode.width) d
     ∙ ap (λ z. (f * p.mode.height + (z - (p.mode.vtotal - p.mode.height))) * p.mode.width) m
     ∙ ap (λ z. (f * p.mode.height + z) * p.mode.width) s
 
@@ -62,13 +62,13 @@ rows_are p pixels line = ap (λ n. map (line_bytes p pixels line) (range_with_le
 line_read : (p : PlanFacts) (pixels : List Pixel) (f y : ℕ) → IsPlan p
     → AllByRecursion (InRange (depth_bits p.mode.depth)) pixels → y < p.mode.height
     → pixels_in_rows (depth_bits p.mode.depth) (plan_lanes p) p.mode.width
-        (map (line_bytes p pixels (here p f y)) (range_with_len 0 (symbols (timing p))))
+    (map (line_bytes p pixels (here p f y)) (range_with_len 0 (symbols (timing p))))
     ≡ row_of_pixels p pixels (f * p.mode.height + y)
 unfolding row_of_pixels
 line_read p pixels f y plan all within =
     ap (pixels_in_rows (depth_bits p.mode.depth) (plan_lanes p) p.mode.width) (rows_are p pixels (here p f y))
     ∙ line_back (line_of p pixels (here p f y)) (count_pos p.link.lanes)
-        (λ x l. pixel_fits (depth_bits p.mode.depth) pixels (first_pixel p (here p f y) + x) all)
+    (λ x l. pixel_fits (depth_bits p.mode.depth) pixels (first_pixel p (here p f y) + x) all)
     ∙ ap (λ k. map (λ x. get_or pixels (k + x) black) (range_with_len 0 p.mode.width)) (first_is p f y plan within)
 
 whole_kept : (g : ℕ → List (List ℕ)) (xs : List ℕ)
@@ -88,7 +88,7 @@ lines_read p pixels f plan all =
     let read = λ (line : ActivePart). pixels_in_rows (depth_bits p.mode.depth) (plan_lanes p) p.mode.width line.rows in
     map_range_same (λ y. row_of_pixels p pixels (f * p.mode.height + y))
     (λ y. pixels_in_rows (depth_bits p.mode.depth) (plan_lanes p) p.mode.width
-        (map (line_bytes p pixels (here p f y)) (range_with_len 0 (symbols (timing p))))) 0 0 p.mode.height
+    (map (line_bytes p pixels (here p f y)) (range_with_len 0 (symbols (timing p))))) 0 0 p.mode.height
     (λ y l. let z : 0 + y ≡ y = omega arith in rw z (sym (line_read p pixels f y plan all l)))
     ∙ sym (map_map read (sent_line_of rows) (range_with_len 0 p.mode.height))
     ∙ ap (map read) (sym (whole_kept rows (range_with_len 0 p.mode.height)))
@@ -122,7 +122,7 @@ line_long p pixels line =
 
 lines_long : (p : PlanFacts) (pixels : List Pixel) (f : ℕ)
     → AllByRecursion (HasLength (symbols_of p.mode.width (plan_lanes p) (3 * depth_bits p.mode.depth)))
-        (sent_lines p pixels f 0 p.mode.height)
+    (sent_lines p pixels f 0 p.mode.height)
 unfolding sent_lines
 lines_long p pixels f =
     all_map_range (HasLength (symbols_of p.mode.width (plan_lanes p) (3 * depth_bits p.mode.depth)))
@@ -147,7 +147,7 @@ frame_length p pixels f = lines_length p pixels f p.mode.height
 are_frames_from : (p : PlanFacts) (pixels : List Pixel) (f m : ℕ) → IsPlan p
     → AllByRecursion (InRange (depth_bits p.mode.depth)) pixels
     → AreFrames (plan_lanes p) (map (told_frame p pixels) (range_with_len f (suc m)))
-        (map (sent_frame p pixels) (range_with_len f (suc m)))
+    (map (sent_frame p pixels) (range_with_len f (suc m)))
 are_frames_from p pixels f zero plan all = (is_frame p pixels f plan all, omega (arith, frame_length p pixels f))
 are_frames_from p pixels f (suc m) plan all =
     (is_frame p pixels f plan all, frame_length p pixels f, are_frames_from p pixels (f + 1) m plan all)
@@ -158,5 +158,5 @@ pub frames_are : (p : PlanFacts) (pixels : List Pixel) (m : ℕ) → IsPlan p
 unfolding sent_frames sent_frame
 frames_are p pixels m plan all e =
     let sent : sent_frames p pixels ≡ map (sent_frame p pixels) (range_with_len 0 (suc m)) =
-        ap (λ n. map (sent_frame p pixels) (range_with_len 0 n)) e in
+    ap (λ n. map (sent_frame p pixels) (range_with_len 0 n)) e in
     rw sent (are_frames_from p pixels 0 m plan all)

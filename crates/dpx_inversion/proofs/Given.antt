@@ -83,7 +83,7 @@ group_set false lanes (suc i) reset h = absurd (omega arith)
 
 set_headed : (p : PlanFacts) (bytes : List ℕ) (line i : ℕ) → i < group_length p.link
     → set_of p (Group i (line % 512 == 0)) bytes
-        ≡ get_or (group_sets p.link.enhanced (plan_lanes p) (group_code (resets line))) i []
+    ≡ get_or (group_sets p.link.enhanced (plan_lanes p) (group_code (resets line))) i []
 unfolding set_of resets
 set_headed p bytes line i h = group_set p.link.enhanced (plan_lanes p) i (line % 512 == 0) h
 
@@ -97,12 +97,12 @@ set_identified p bytes line i = alike (plan_lanes p)
 attribute_row : (p : PlanFacts) (k : ℕ) → k < 36 / plan_lanes p
     → get_or (attribute_rows p) k []
     ≡ map (λ lane. get_or (attributes_bytes p.mode p.link) (column_symbol p.link.lanes lane k) 0)
-        (range_with_len 0 (plan_lanes p))
+    (range_with_len 0 (plan_lanes p))
 unfolding attribute_rows
 attribute_row p k h =
     get_or-map-range_with_len
     (λ index. map (λ lane. get_or (attributes_bytes p.mode p.link) (column_symbol p.link.lanes lane index) 0)
-        (range_with_len 0 (plan_lanes p)))
+    (range_with_len 0 (plan_lanes p)))
     0 (36 / plan_lanes p) k k [] h (omega arith)
 
 rows_length : (p : PlanFacts) → length (attribute_rows p) ≡ 36 / plan_lanes p
@@ -110,12 +110,12 @@ unfolding attribute_rows
 rows_length p =
     length-map-range_with_len
     (λ index. map (λ lane. get_or (attributes_bytes p.mode p.link) (column_symbol p.link.lanes lane index) 0)
-        (range_with_len 0 (plan_lanes p)))
+    (range_with_len 0 (plan_lanes p)))
     0 (36 / plan_lanes p)
 
 symbol_between : (p : PlanFacts) (k lane : ℕ) → k < 36 / plan_lanes p
     → attribute_symbol p (suc (suc k)) lane ≡ data_symbol
-        (get_or (attributes_bytes p.mode p.link) (column_symbol p.link.lanes lane k) 0)
+    (get_or (attributes_bytes p.mode p.link) (column_symbol p.link.lanes lane k) 0)
 symbol_between p k lane h =
     let a : nat_lt (suc (suc k)) 2 ≡ false = grind arith in
     let b : suc (suc k) == 2 + 36 / plan_lanes p ≡ false = grind arith in
@@ -138,27 +138,27 @@ set_attributed p bytes (suc zero) h = constant_row (attribute_symbol p 1) (contr
 set_attributed p bytes (suc (suc k)) h = elim (cases_lt k (36 / plan_lanes p)) [
   | inl row ↦
       let n : length (map data_set (attribute_rows p)) ≡ 36 / plan_lanes p =
-          length-map (attribute_rows p) data_set ∙ rows_length p in
+      length-map (attribute_rows p) data_set ∙ rows_length p in
       same (plan_lanes p) k row
       ∙ sym (get_or_append_left (map data_set (attribute_rows p)) (control_set (plan_lanes p) se ∷ []) [] k
-          (omega arith)
+      (omega arith)
       ∙ get_or-map data_set (attribute_rows p) k [] [] (omega (arith, rows_length p))
       ∙ ap data_set (attribute_row p k row)
       ∙ map_map data_symbol (λ lane. get_or (attributes_bytes p.mode p.link) (column_symbol p.link.lanes lane k) 0)
-          (range_with_len 0 (plan_lanes p)))
+      (range_with_len 0 (plan_lanes p)))
   | inr last ↦
       let e : k ≡ 36 / plan_lanes p = omega arith in
       let n : length (map data_set (attribute_rows p)) ≡ k =
-          length-map (attribute_rows p) data_set ∙ rows_length p ∙ sym e in
+      length-map (attribute_rows p) data_set ∙ rows_length p ∙ sym e in
       constant_row (attribute_symbol p (suc (suc k))) (control_symbol se) 0 (plan_lanes p)
-          (λ lane. symbol_last p k lane e)
+      (λ lane. symbol_last p k lane e)
       ∙ sym (get_or_at (map data_set (attribute_rows p)) (control_set (plan_lanes p) se) [] [] k n)
 ]
   where
     same : (n k : ℕ) → k < 36 / plan_lanes p
         → map (attribute_symbol p (suc (suc k))) (range_with_len 0 n)
         ≡ map (λ lane. data_symbol (get_or (attributes_bytes p.mode p.link) (column_symbol p.link.lanes lane k) 0))
-            (range_with_len 0 n)
+        (range_with_len 0 n)
     same n k row =
         map_range_same (attribute_symbol p (suc (suc k)))
         (λ lane. data_symbol (get_or (attributes_bytes p.mode p.link) (column_symbol p.link.lanes lane k) 0)) 0 0 n
@@ -177,9 +177,9 @@ is_table p pixels plan = record {
       ∙ ap data_set (bytes_found p pixels line j plan within active h);
   stuffed = λ line k i within active h v l.
       ap (λ s. set_of p s (bytes_at p pixels (start (timing p) line + k * p.unit + i)))
-          (slot_stuffed p line k i plan within active h v l)
+      (slot_stuffed p line k i plan within active h v l)
       ∙ set_stuffed p (bytes_at p pixels (start (timing p) line + k * p.unit + i))
-          (carried (timing p) (k + 1) - carried (timing p) k) i;
+      (carried (timing p) (k + 1) - carried (timing p) k) i;
   headed = λ line i within h.
       let e : head_at p line + i ≡ header_start p line + i = ap (λ z. z + i) (head_is p line) in
       ap (set_at p pixels) e
@@ -190,15 +190,15 @@ is_table p pixels plan = record {
       ap (λ z. z + group_length p.link + i) (head_is p line) in
       ap (set_at p pixels) e
       ∙ ap (λ s. set_of p s (bytes_at p pixels (header_start p line + group_length p.link + i)))
-          (slot_identified p line i plan within h)
+      (slot_identified p line i plan within h)
       ∙ set_identified p (bytes_at p pixels (header_start p line + group_length p.link + i)) line i;
   attributed = λ line i within first h.
       let e : head_at p line + group_length p.link + 12 / plan_lanes p + i
-          ≡ header_start p line + group_length p.link + block_length p.link + i =
+      ≡ header_start p line + group_length p.link + block_length p.link + i =
       ap (λ z. z + group_length p.link + 12 / plan_lanes p + i) (head_is p line) in
       ap (set_at p pixels) e
       ∙ ap (λ s. set_of p s (bytes_at p pixels (header_start p line + group_length p.link + block_length p.link + i)))
-          (slot_attributed p line i plan within first h)
+      (slot_attributed p line i plan within first h)
       ∙ set_attributed p (bytes_at p pixels (header_start p line + group_length p.link + block_length p.link + i)) i h;
   filled = λ line t within low high.
       ap (λ s. set_of p s (bytes_at p pixels t)) (slot_filled p line t plan within low high)
@@ -233,7 +233,7 @@ starts_at_sr p pixels source = (
       let table : IsTable p pixels (set_at p pixels) = is_table p pixels source in
       ap (set_at p pixels) (sym z) ∙ table.headed 0 0 some (omega (arith, (headers p).0))
       ∙ group_first p.link.enhanced (plan_lanes p) (group_code (resets 0))
-          ∙ ap (λ b. control_set (plan_lanes p) (group_code b)) first_resets,
+      ∙ ap (λ b. control_set (plan_lanes p) (group_code b)) first_resets,
 )
 
 pub starts_with_group : StartsWithGroup
@@ -243,16 +243,16 @@ starts_with_group p pixels source =
     let g : ℕ = group_length p.link in
     let some : 0 < lines p = omega (arith, mul-le-mul source.frames.0 source.mode.vtotal.0) in
     let room : head_at p 0 + group_length p.link + block_length p.link ≤ clocks p =
-        omega (arith, lasts p 0 source some, head_is p 0) in
+    omega (arith, lasts p 0 source some, head_is p 0) in
     let table : IsTable p pixels (set_at p pixels) = is_table p pixels source in (
       map (set_at p pixels) (range_with_len (h + g) (clocks p - h - g)),
       map_range_cut (set_at p pixels) 0 h (clocks p) h (clocks p - h) (omega arith) (omega arith)
           ∙ ap (λ xs. xs ++ map (set_at p pixels) (range_with_len h (clocks p - h)))
           (constant (set_at p pixels) 0 h (zero_row p)
-              (λ i l. let z : 0 + i ≡ i = omega arith in rw z ((starts_at_sr p pixels source).0 i l)))
+          (λ i l. let z : 0 + i ≡ i = omega arith in rw z ((starts_at_sr p pixels source).0 i l)))
           ∙ ap (λ xs. map data_set (replicate h (zero_row p)) ++ xs)
           (map_range_cut (set_at p pixels) h g (clocks p - h) (h + g) (clocks p - h - g) (omega arith) refl
           ∙ ap (λ xs. xs ++ map (set_at p pixels) (range_with_len (h + g) (clocks p - h - g)))
           (head_sets p pixels (set_at p pixels) 0 table some
-              ∙ ap (λ b. group_sets p.link.enhanced (plan_lanes p) (group_code b)) first_resets)),
+          ∙ ap (λ b. group_sets p.link.enhanced (plan_lanes p) (group_code b)) first_resets)),
     )

@@ -14,4 +14,5 @@ pub mod Rows
 pub mod Table
 pub mod Given
 pub mod Received
+pub mod Small
 pub mod Sendable

@@ -33,7 +33,7 @@ unfolding line_bit
 line_small line lane i =
     small (nat_lt (lane + line.lanes * (i / (3 * line.depth))) line.width)
     (component (line.pixel (lane + line.lanes * (i / (3 * line.depth)))) (i % (3 * line.depth) / line.depth))
-        (line.depth - 1 - i % line.depth)
+    (line.depth - 1 - i % line.depth)
   where
     small : (b : Bool) (v k : ℕ) → (if b then bit_at v k else 0) < 2
     small true v k = bit_small v k
@@ -47,11 +47,11 @@ bit_in_rows line lane i here within =
     let b : i / 8 < symbols_of line.width line.lanes (3 * line.depth) = omega arith in
     let row : get_or (rows_of line) (i / 8) [] ≡ row_of line (i / 8) =
     get_or-map-range_with_len (row_of line) 0 (symbols_of line.width line.lanes (3 * line.depth)) (i / 8) (i / 8) [] b
-        (omega arith) in
+    (omega arith) in
     let byte : get_or (row_of line (i / 8)) lane 0
-        ≡ number_of (map (line_bit line lane) (range_with_len (8 * (i / 8)) 8)) =
+    ≡ number_of (map (line_bit line lane) (range_with_len (8 * (i / 8)) 8)) =
     get_or-map-range_with_len (λ l. number_of (map (line_bit line l) (range_with_len (8 * (i / 8)) 8))) 0
-        line.lanes lane lane 0 here (omega arith) in
+    line.lanes lane lane 0 here (omega arith) in
     let place : 8 * (i / 8) + i % 8 ≡ i = omega arith in
     ap (λ r. bit_at (get_or r lane 0) (7 - i % 8)) row
     ∙ ap (λ v. bit_at v (7 - i % 8)) byte
@@ -61,7 +61,7 @@ bit_in_rows line lane i here within =
 -- where bit i of component k of pixel x stands
 bit_stands : (line : Line) (x k i : ℕ) → 0 < line.lanes → k < 3 → i < line.depth → x < line.width
     → line_bit line (x % line.lanes) (x / line.lanes * (3 * line.depth) + k * line.depth + i)
-        ≡ bit_at (component (line.pixel x) k) (line.depth - 1 - i)
+    ≡ bit_at (component (line.pixel x) k) (line.depth - 1 - i)
 unfolding line_bit
 bit_stands line x k i pos some here within =
     let c : ℕ = line.depth in
@@ -69,9 +69,9 @@ bit_stands line x k i pos some here within =
     let room : suc k * line.depth ≤ 3 * line.depth = mul-le-mul_right line.depth some in
     let in_pixel : k * line.depth + i < 3 * line.depth = omega arith in
     let joined : x / line.lanes * (3 * line.depth) + k * line.depth + i
-        ≡ x / line.lanes * (3 * line.depth) + (k * line.depth + i) = omega arith in
+    ≡ x / line.lanes * (3 * line.depth) + (k * line.depth + i) = omega arith in
     let flat : x / line.lanes * (3 * line.depth) + (k * line.depth + i) ≡ (x / line.lanes * 3 + k) * line.depth + i =
-        omega arith in
+    omega arith in
     let q : (x / line.lanes * (3 * line.depth) + (k * line.depth + i)) / (3 * line.depth) ≡ x / line.lanes =
     div-mul-add (x / line.lanes) (3 * line.depth) (k * line.depth + i) in_pixel in
     let m : (x / line.lanes * (3 * line.depth) + (k * line.depth + i)) % (3 * line.depth) ≡ k * line.depth + i =
@@ -98,11 +98,11 @@ component_fits c p (suc (suc k)) h = h.b
 
 component_back : (line : Line) (x k : ℕ) → 0 < line.lanes → k < 3 → x < line.width → InRange line.depth (line.pixel x)
     → carried_component line.depth (byte_in (rows_of line) (x % line.lanes)) (x / line.lanes) k
-        ≡ component (line.pixel x) k
+    ≡ component (line.pixel x) k
 unfolding carried_component
 component_back line x k pos some within fits =
     number_back (carried_bit (byte_in (rows_of line) (x % line.lanes)))
-        (x / line.lanes * (3 * line.depth) + k * line.depth) line.depth (component (line.pixel x) k)
+    (x / line.lanes * (3 * line.depth) + k * line.depth) line.depth (component (line.pixel x) k)
     (component_fits line.depth (line.pixel x) k fits)
     (λ i l.
     bit_in_rows line (x % line.lanes) (x / line.lanes * (3 * line.depth) + k * line.depth + i) (mod-lt x pos)

@@ -61,7 +61,7 @@ unfolding attribute_rows
 attribute_rows_length p =
     length-map-range_with_len
     (λ index. map (λ lane. get_or (attributes_bytes p.mode p.link) (column_symbol p.link.lanes lane index) 0)
-        (range_with_len 0 (plan_lanes p)))
+    (range_with_len 0 (plan_lanes p)))
     0 (36 / plan_lanes p)
 
 attribute_sets_length : (p : PlanFacts) → length (attribute_sets p) ≡ 3 + 36 / plan_lanes p
@@ -82,16 +82,16 @@ group_sets_length false lanes x = refl
 pub head_sets : (p : PlanFacts) (pixels : List Pixel) (at : ℕ → List Sym) (line : ℕ) → IsTable p pixels at
     → line < lines p
     → map at (range_with_len (head_at p line) (group_length p.link))
-        ≡ sets_of p.link.enhanced (plan_lanes p) (group (resets line))
+    ≡ sets_of p.link.enhanced (plan_lanes p) (group (resets line))
 head_sets p pixels at line table within =
     map_range_is at (head_at p line) (group_length p.link)
-        (group_sets p.link.enhanced (plan_lanes p) (group_code (resets line))) []
+    (group_sets p.link.enhanced (plan_lanes p) (group_code (resets line))) []
     (group_sets_length p.link.enhanced (plan_lanes p) (group_code (resets line))) (λ i l. table.headed line i within l)
 
 pub id_sets : (p : PlanFacts) (pixels : List Pixel) (at : ℕ → List Sym) (line : ℕ) → IsTable p pixels at
     → line < lines p
     → map at (range_with_len (head_at p line + group_length p.link) (12 / plan_lanes p))
-        ≡ sets_of p.link.enhanced (plan_lanes p) (block (id_rows p line))
+    ≡ sets_of p.link.enhanced (plan_lanes p) (block (id_rows p line))
 unfolding id_rows
 id_sets p pixels at line table within =
     map_range_same at (λ i. data_set (id_row p line i)) (head_at p line + group_length p.link) 0 (12 / plan_lanes p)
@@ -102,7 +102,7 @@ blank_sets : (p : PlanFacts) (at : ℕ → List Sym) (a n : ℕ) (first : Bool)
     → (first ≡ true → (i : ℕ) → i < 3 + 36 / plan_lanes p → at (a + i) ≡ get_or (attribute_sets p) i [])
     → ((i : ℕ) → i < n → at (a + told_length p first + i) ≡ data_set (zero_row p))
     → map at (range_with_len a (told_length p first + n))
-        ≡ flat_map (sets_of p.link.enhanced (plan_lanes p)) (blank_of p first n)
+    ≡ flat_map (sets_of p.link.enhanced (plan_lanes p)) (blank_of p first n)
 unfolding blank_of told_length
 blank_sets p at a n true told filled =
     map_range_cut at a (3 + 36 / plan_lanes p) (3 + 36 / plan_lanes p + n) (a + (3 + 36 / plan_lanes p)) n refl refl
@@ -110,7 +110,7 @@ blank_sets p at a n true told filled =
     (map_range_is at a (3 + 36 / plan_lanes p) (attribute_sets p) [] (attribute_sets_length p) (told refl))
     ∙ ap (λ xs. attribute_sets p ++ xs)
     (constant at (a + (3 + 36 / plan_lanes p)) n (zero_row p) filled
-        ∙ sym (fillers p.link.enhanced (plan_lanes p) n (zero_row p)))
+    ∙ sym (fillers p.link.enhanced (plan_lanes p) n (zero_row p)))
 blank_sets p at a n false told filled =
     let e : 0 + n ≡ n = omega arith in
     let f : a + 0 ≡ a = omega arith in
@@ -131,19 +131,19 @@ active_sets : (p : PlanFacts) (pixels : List Pixel) (at : ℕ → List Sym) (lin
     → IsTable p pixels at → line < lines p
     → is_active p line ≡ active
     → map at (range_with_len (head_at p line - line_length p active) (line_length p active))
-        ≡ flat_map (sets_of p.link.enhanced (plan_lanes p)) (active_of p pixels line active)
+    ≡ flat_map (sets_of p.link.enhanced (plan_lanes p)) (active_of p pixels line active)
 unfolding active_of line_length head_at
 active_sets p pixels at line true plan table within is =
     let s : ℕ = start (timing p) line in
     let b : start (timing p) line + line_end (timing p) - (line_end (timing p) + 1) ≡ start (timing p) line - 1 =
-        omega (arith, started p line plan) in
+    omega (arith, started p line plan) in
     let is_line : IsLine p (line_bytes p pixels line) at line = line_in p pixels at line table within is in
     ap (λ k. map at (range_with_len k (line_end (timing p) + 1))) b
     ∙ map_range_cut at (start (timing p) line - 1) 1 (line_end (timing p) + 1) (start (timing p) line)
-        (line_end (timing p)) (omega arith) (omega (arith, started p line plan))
+    (line_end (timing p)) (omega arith) (omega (arith, started p line plan))
     ∙ ap (λ x. x ∷ map at (range_with_len (start (timing p) line) (line_end (timing p)))) is_line.begun
     ∙ ap (λ xs. control_set (plan_lanes p) be ∷ xs)
-        (line_at p (line_bytes p pixels line) at line (possible p plan) plan.fits is_line)
+    (line_at p (line_bytes p pixels line) at line (possible p plan) plan.fits is_line)
 active_sets p pixels at line false plan table within is = refl
 
 pub next_in_frame : (total line i : ℕ) → i + 1 < total → line % total ≡ i → (line + 1) % total ≡ i + 1
@@ -176,7 +176,7 @@ header_is p line = refl
 total : (p : PlanFacts) (line : ℕ) → IsPlan p
     → head_at p (line + 1) - head_at p line
     ≡ group_length p.link + (12 / plan_lanes p +
-        (told_length p (begins_frame p line) + spare p line + line_length p (is_active p (line + 1))))
+    (told_length p (begins_frame p line) + spare p line + line_length p (is_active p (line + 1))))
 unfolding spare
 total p line plan = omega (arith, (spared p line plan).0, (spared p line plan).1, header_is p line)
 
@@ -186,13 +186,13 @@ before : (p : PlanFacts) (line i : ℕ) → IsPlan p → i < spare p line
 unfolding line_length
 before p line i plan l =
     let e : line_length p (is_active p (line + 1)) ≡ (if is_active p (line + 1) then line_end (timing p) + 1 else 0) =
-        refl in
+    refl in
     omega (arith, total p line plan, (spared p line plan).1, e)
 
 pub period_sets : (p : PlanFacts) (pixels : List Pixel) (at : ℕ → List Sym) (line : ℕ) → IsPlan p → IsTable p pixels at
     → line + 1 < lines p
     → map at (range_with_len (head_at p line) (head_at p (line + 1) - head_at p line))
-        ≡ flat_map (sets_of p.link.enhanced (plan_lanes p)) (period p pixels line)
+    ≡ flat_map (sets_of p.link.enhanced (plan_lanes p)) (period p pixels line)
 unfolding period
 period_sets p pixels at line plan table within =
     let h : ℕ = head_at p line in
@@ -217,6 +217,6 @@ period_sets p pixels at line plan table within =
     (blank_sets p at (h + g + q) n first (λ f i l. table.attributed line i within f l)
     (λ i l. table.filled line (h + g + q + tl + i) within (omega (arith, header_is p line)) (before p line i plan l)))
     ∙ ap (λ xs. flat_map (sets_of p.link.enhanced (plan_lanes p)) (blank_of p first n) ++ xs)
-        (active_sets p pixels at (line + 1) active plan table within refl)
+    (active_sets p pixels at (line + 1) active plan table within refl)
     ∙ sym (flat_map_append (sets_of p.link.enhanced (plan_lanes p)) (blank_of p first n)
-        (active_of p pixels (line + 1) active))))
+    (active_of p pixels (line + 1) active))))

@@ -89,10 +89,18 @@ room p line true true plan f not_both = absurd (different (not_both refl))
 room p line true false plan f not_both =
     let h : (symbols (timing p) + 22 ≤ gap (timing p)) × (288 ≤ 8 * (lanes_count p.link.lanes * symbols (timing p))) =
     header_room (timing p) (possible p plan) plan.fits (omega (arith, plan.mode.width.0)) (bits_from p.mode.depth) in
-    rw f (omega (arith, (group_fits p.link).1,
-        attributes_fit p.link.lanes (symbols (timing p)) (gap (timing p)) h.0 h.1))
+    rw f (omega (
+      arith,
+      (group_fits p.link).1,
+      attributes_fit p.link.lanes (symbols (timing p)) (gap (timing p)) h.0 h.1,
+    ))
 room p line false true plan f not_both = rw f
-    (omega (arith, (group_fits p.link).1, block_fits p.link.lanes, plan.fits.room,
-    delay_from (timing p) (possible p plan) plan.fits (bits_from p.mode.depth)))
+    (omega (
+      arith,
+      (group_fits p.link).1,
+      block_fits p.link.lanes,
+      plan.fits.room,
+      delay_from (timing p) (possible p plan) plan.fits (bits_from p.mode.depth),
+    ))
 room p line false false plan f not_both = rw f
     (omega (arith, (group_fits p.link).1, block_fits p.link.lanes, plan.fits.room))

@@ -44,7 +44,7 @@ row_is p pixels y = sym (map_range_shift (pixel pixels) (y * p.mode.width) p.mod
 
 frame_is : (p : PlanFacts) (pixels : List Pixel) (f : ℕ)
     → flat_map (λ line. line) (map (λ y. row_of_pixels p pixels (f * p.mode.height + y))
-        (range_with_len 0 p.mode.height))
+    (range_with_len 0 p.mode.height))
     ≡ map (pixel pixels) (range_with_len (f * (p.mode.height * p.mode.width)) (p.mode.height * p.mode.width))
 frame_is p pixels f =
     let z : f * p.mode.height + 0 ≡ f * p.mode.height = omega arith in
@@ -63,7 +63,7 @@ gives_back p pixels all =
     flat_of_map (λ (frame : Frame). flat_map (λ line. line) frame.lines) (frame_of p pixels) (range_with_len 0 p.frames)
     ∙ joined (pixel pixels) (p.mode.height * p.mode.width) 0 p.frames
     (λ f. flat_map (λ line. line) (map (λ y. row_of_pixels p pixels (f * p.mode.height + y))
-        (range_with_len 0 p.mode.height))) (frame_is p pixels)
+    (range_with_len 0 p.mode.height))) (frame_is p pixels)
     ∙ ap (λ a. map (pixel pixels) (range_with_len a (p.frames * (p.mode.height * p.mode.width)))) z
     ∙ map_range_is (pixel pixels) 0 (p.frames * (p.mode.height * p.mode.width)) pixels black (all.count ∙ sym n)
     (λ i l. let e : 0 + i ≡ i = omega arith in ap (pixel pixels) e)
@@ -77,5 +77,5 @@ gives_back p pixels all =
 pub is_received : IsReceived
 is_received p pixels frames tail source all given =
     let one = is_one p.link.enhanced p.link.lanes _ frames (sent_frames p pixels) tail 0 given
-        (inverts p pixels source all) in
+    (inverts p pixels source all) in
     (one.0, ap pixels_in one.0 ∙ gives_back p pixels all, one.1)

@@ -42,12 +42,14 @@ shown_quiet : (p : PlanFacts) (pixels : List Pixel) (line : ℕ)
     → AllByRecursion IsQuiet (shown_line (timing p) (line_bytes p pixels line) (zero_row p))
 shown_quiet p pixels line =
     quiet_shown (shown_line (timing p) (line_bytes p pixels line) (zero_row p))
-        (line_shown (timing p) (line_bytes p pixels line) (zero_row p))
+    (line_shown (timing p) (line_bytes p pixels line) (zero_row p))
 
 -- an active line as it is told
 unfoldable pub sent_line : PlanFacts → List Pixel → ℕ → ActivePart
-sent_line p pixels line = record { rows = map (line_bytes p pixels line) (range_with_len 0 (symbols (timing p)));
-    is_whole = true }
+sent_line p pixels line = record {
+  rows = map (line_bytes p pixels line) (range_with_len 0 (symbols (timing p)));
+  is_whole = true;
+}
 
 -- ---- the active part of a line, before a rest
 
@@ -60,7 +62,7 @@ told_active p pixels line false rest = refl
 
 lines_active : (p : PlanFacts) (pixels : List Pixel) (line n : ℕ) → IsPlan p
     → lines_of (active_of p pixels line true ++ from p pixels line n)
-        ≡ sent_line p pixels line ∷ lines_of (from p pixels line n)
+    ≡ sent_line p pixels line ∷ lines_of (from p pixels line n)
 unfolding active_of sent_line
 lines_active p pixels line n plan =
     let xs : List Part = shown_line (timing p) (line_bytes p pixels line) (zero_row p) in
@@ -71,21 +73,23 @@ lines_active p pixels line n plan =
     ∙ append-nil (valid_rows xs)
     ∙ line_rows (timing p) (line_bytes p pixels line) (zero_row p) (possible p plan) in
     let whole : is_ended (xs ++ ys) ≡ true =
-        ended_behind xs ys (line_shown (timing p) (line_bytes p pixels line) (zero_row p))
-        ∙ from_is_ended p pixels line n in
-    rw (rows, whole) (ap (λ zs. record { rows = map (line_bytes p pixels line) (range_with_len 0 (symbols (timing p)));
-        is_whole = true } ∷ zs)
+    ended_behind xs ys (line_shown (timing p) (line_bytes p pixels line) (zero_row p))
+    ∙ from_is_ended p pixels line n in
+    rw (rows, whole) (ap (λ zs. record {
+      rows = map (line_bytes p pixels line) (range_with_len 0 (symbols (timing p)));
+      is_whole = true;
+    } ∷ zs)
     (lines_quiet xs ys (shown_quiet p pixels line)))
 
 unfinished_active : (p : PlanFacts) (pixels : List Pixel) (line : ℕ) (active : Bool) (rest : List Part)
     → is_ended rest ≡ true
     → unfinished p.link.enhanced (plan_lanes p) (active_of p pixels line active ++ rest) 0
-        ≡ unfinished p.link.enhanced (plan_lanes p) rest 0
+    ≡ unfinished p.link.enhanced (plan_lanes p) rest 0
 unfolding active_of
 unfinished_active p pixels line true rest h =
     let xs : List Part = shown_line (timing p) (line_bytes p pixels line) (zero_row p) in
     rw (ended_behind xs rest (line_shown (timing p) (line_bytes p pixels line) (zero_row p)) ∙ h)
-        (unfinished_quiet p.link.enhanced (plan_lanes p) 0 xs rest (shown_quiet p pixels line))
+    (unfinished_quiet p.link.enhanced (plan_lanes p) 0 xs rest (shown_quiet p pixels line))
 unfinished_active p pixels line false rest h = refl
 
 -- ---- a whole period, before a rest
@@ -100,7 +104,7 @@ lines_blank p n rest = lines_quiet (replicate n (filler (zero_row p))) rest (fil
 
 told_attributes : (p : PlanFacts) (n : ℕ) (rest : List Part)
     → frame_parts (blank_of p true n ++ rest)
-        ≡ record { rows = attribute_rows p; lines = lines_of rest } ∷ frame_parts rest
+    ≡ record { rows = attribute_rows p; lines = lines_of rest } ∷ frame_parts rest
 unfolding blank_of
 told_attributes p n rest =
     ap (λ l. record { rows = attribute_rows p; lines = l } ∷ frame_parts (replicate n (filler (zero_row p)) ++ rest))
@@ -114,7 +118,7 @@ lines_attributes p n rest = refl
 
 unfinished_blank : (p : PlanFacts) (first : Bool) (n : ℕ) (rest : List Part)
     → unfinished p.link.enhanced (plan_lanes p) (blank_of p first n ++ rest) 0
-        ≡ unfinished p.link.enhanced (plan_lanes p) rest 0
+    ≡ unfinished p.link.enhanced (plan_lanes p) rest 0
 unfolding blank_of
 unfinished_blank p true n rest = unfinished_quiet p.link.enhanced (plan_lanes p) 0
     (replicate n (filler (zero_row p))) rest (fillers_quiet n (zero_row p))
@@ -128,24 +132,24 @@ told_other : (p : PlanFacts) (pixels : List Pixel) (a n : ℕ) → begins_frame 
 unfolding from period
 told_other p pixels a n other =
     ap frame_parts (append_assoc (blank_of p (begins_frame p a) (spare p a))
-        (active_of p pixels (a + 1) (is_active p (a + 1))) (from p pixels (a + 1) n))
+    (active_of p pixels (a + 1) (is_active p (a + 1))) (from p pixels (a + 1) n))
     ∙ ap (λ b. frame_parts (blank_of p b (spare p a) ++
-        (active_of p pixels (a + 1) (is_active p (a + 1)) ++ from p pixels (a + 1) n))) other
+    (active_of p pixels (a + 1) (is_active p (a + 1)) ++ from p pixels (a + 1) n))) other
     ∙ told_blank p (spare p a) (active_of p pixels (a + 1) (is_active p (a + 1)) ++ from p pixels (a + 1) n)
     ∙ told_active p pixels (a + 1) (is_active p (a + 1)) (from p pixels (a + 1) n)
 
 told_first : (p : PlanFacts) (pixels : List Pixel) (a n : ℕ) → IsPlan p → begins_frame p a ≡ true
     → frame_parts (from p pixels a (suc n))
     ≡ record { rows = attribute_rows p; lines = lines_of (from p pixels (a + 1) n) } ∷ frame_parts
-        (from p pixels (a + 1) n)
+    (from p pixels (a + 1) n)
 unfolding from period active_of
 told_first p pixels a n plan first =
     ap frame_parts (append_assoc (blank_of p (begins_frame p a) (spare p a))
-        (active_of p pixels (a + 1) (is_active p (a + 1))) (from p pixels (a + 1) n))
+    (active_of p pixels (a + 1) (is_active p (a + 1))) (from p pixels (a + 1) n))
     ∙ ap (λ b. frame_parts (blank_of p b (spare p a) ++
-        (active_of p pixels (a + 1) (is_active p (a + 1)) ++ from p pixels (a + 1) n))) first
+    (active_of p pixels (a + 1) (is_active p (a + 1)) ++ from p pixels (a + 1) n))) first
     ∙ ap (λ b. frame_parts (blank_of p true (spare p a) ++ (active_of p pixels (a + 1) b ++ from p pixels (a + 1) n)))
-        (not_both p a plan first)
+    (not_both p a plan first)
     ∙ told_attributes p (spare p a) (from p pixels (a + 1) n)
 
 lines_first : (p : PlanFacts) (pixels : List Pixel) (a n : ℕ) → begins_frame p a ≡ true
@@ -154,9 +158,9 @@ unfolding from period
 lines_first p pixels a zero first = refl
 lines_first p pixels a (suc n) first =
     ap lines_of (append_assoc (blank_of p (begins_frame p a) (spare p a))
-        (active_of p pixels (a + 1) (is_active p (a + 1))) (from p pixels (a + 1) n))
+    (active_of p pixels (a + 1) (is_active p (a + 1))) (from p pixels (a + 1) n))
     ∙ ap (λ b. lines_of (blank_of p b (spare p a) ++
-        (active_of p pixels (a + 1) (is_active p (a + 1)) ++ from p pixels (a + 1) n))) first
+    (active_of p pixels (a + 1) (is_active p (a + 1)) ++ from p pixels (a + 1) n))) first
     ∙ lines_attributes p (spare p a) (active_of p pixels (a + 1) (is_active p (a + 1)) ++ from p pixels (a + 1) n)
 
 none : (p : PlanFacts) (pixels : List Pixel) (a : ℕ) → lines_of (from p pixels a 0) ≡ []
@@ -168,9 +172,9 @@ lines_none : (p : PlanFacts) (pixels : List Pixel) (a n : ℕ) → begins_frame 
 unfolding from period active_of
 lines_none p pixels a n other blank =
     ap lines_of (append_assoc (blank_of p (begins_frame p a) (spare p a))
-        (active_of p pixels (a + 1) (is_active p (a + 1))) (from p pixels (a + 1) n))
+    (active_of p pixels (a + 1) (is_active p (a + 1))) (from p pixels (a + 1) n))
     ∙ ap (λ b. lines_of (blank_of p b (spare p a) ++
-        (active_of p pixels (a + 1) (is_active p (a + 1)) ++ from p pixels (a + 1) n))) other
+    (active_of p pixels (a + 1) (is_active p (a + 1)) ++ from p pixels (a + 1) n))) other
     ∙ lines_blank p (spare p a) (active_of p pixels (a + 1) (is_active p (a + 1)) ++ from p pixels (a + 1) n)
     ∙ ap (λ b. lines_of (active_of p pixels (a + 1) b ++ from p pixels (a + 1) n)) blank
 
@@ -180,9 +184,9 @@ lines_one : (p : PlanFacts) (pixels : List Pixel) (a n : ℕ) → IsPlan p → b
 unfolding from period
 lines_one p pixels a n plan other active =
     ap lines_of (append_assoc (blank_of p (begins_frame p a) (spare p a))
-        (active_of p pixels (a + 1) (is_active p (a + 1))) (from p pixels (a + 1) n))
+    (active_of p pixels (a + 1) (is_active p (a + 1))) (from p pixels (a + 1) n))
     ∙ ap (λ b. lines_of (blank_of p b (spare p a) ++
-        (active_of p pixels (a + 1) (is_active p (a + 1)) ++ from p pixels (a + 1) n))) other
+    (active_of p pixels (a + 1) (is_active p (a + 1)) ++ from p pixels (a + 1) n))) other
     ∙ lines_blank p (spare p a) (active_of p pixels (a + 1) (is_active p (a + 1)) ++ from p pixels (a + 1) n)
     ∙ ap (λ b. lines_of (active_of p pixels (a + 1) b ++ from p pixels (a + 1) n)) active
     ∙ lines_active p pixels (a + 1) n plan
@@ -194,11 +198,11 @@ all_finished p pixels a zero = refl
 all_finished p pixels a (suc n) =
     ap (λ xs. unfinished p.link.enhanced (plan_lanes p) xs 0)
     (append_assoc (blank_of p (begins_frame p a) (spare p a)) (active_of p pixels (a + 1) (is_active p (a + 1)))
-        (from p pixels (a + 1) n))
+    (from p pixels (a + 1) n))
     ∙ unfinished_blank p (begins_frame p a) (spare p a)
-        (active_of p pixels (a + 1) (is_active p (a + 1)) ++ from p pixels (a + 1) n)
+    (active_of p pixels (a + 1) (is_active p (a + 1)) ++ from p pixels (a + 1) n)
     ∙ unfinished_active p pixels (a + 1) (is_active p (a + 1)) (from p pixels (a + 1) n)
-        (from_is_ended p pixels (a + 1) n)
+    (from_is_ended p pixels (a + 1) n)
     ∙ all_finished p pixels (a + 1) n
 
 -- ---- where a line stands in its frame
@@ -207,7 +211,7 @@ begins_at : (p : PlanFacts) (f : ℕ) → IsPlan p → begins_frame p (f * p.mod
 begins_at p f plan =
     let e : f * p.mode.vtotal ≡ f * p.mode.vtotal + 0 = omega arith in
     let m : f * p.mode.vtotal % p.mode.vtotal ≡ 0 =
-        ap (λ z. z % p.mode.vtotal) e ∙ mod-mul-add f p.mode.vtotal 0 (omega (arith, plan.mode.vtotal.0)) in
+    ap (λ z. z % p.mode.vtotal) e ∙ mod-mul-add f p.mode.vtotal 0 (omega (arith, plan.mode.vtotal.0)) in
     rw m (grind arith)
 
 within_frame : (p : PlanFacts) (f i : ℕ) → 1 ≤ i → i < p.mode.vtotal → begins_frame p (f * p.mode.vtotal + i) ≡ false
@@ -240,32 +244,32 @@ lines_behind p pixels f zero i y (suc n) plan some last room is =
     let next0 : f * p.mode.vtotal + i + 1 ≡ (f + 1) * p.mode.vtotal + 0 = omega arith in
     let blank : is_active p (f * p.mode.vtotal + i + 1) ≡ false =
     ap (is_active p) next0 ∙ blank_at p (f + 1) 0 (omega (arith, plan.mode.vtotal.0))
-        (omega (arith, plan.mode.vtotal.0)) in
+    (omega (arith, plan.mode.vtotal.0)) in
     rw e (
     lines_none p pixels (f * p.mode.vtotal + i) n (within_frame p f i some (omega arith)) blank
     ∙ lines_first p pixels (f * p.mode.vtotal + i + 1) n (ap (begins_frame p) next ∙ begins_at p (f + 1) plan))
 lines_behind p pixels f (suc d) i y zero plan some last room is = absurd (omega arith)
 lines_behind p pixels f (suc d) i y (suc n) plan some last room is =
     elim (cases_lt (i + 1) (p.mode.vtotal - p.mode.height)) [
-  | inl before ↦
-      let e : f * p.mode.vtotal + i + 1 ≡ f * p.mode.vtotal + (i + 1) = omega arith in
-      lines_none p pixels (f * p.mode.vtotal + i) n (within_frame p f i some (omega arith))
-      (ap (is_active p) e ∙ blank_at p f (i + 1) (omega arith) before)
-      ∙ ap (λ a. lines_of (from p pixels a n)) e
-      ∙ lines_behind p pixels f d (i + 1) y n plan (omega arith) (omega arith) (omega arith) (omega arith)
-  | inr behind ↦
-      let e : f * p.mode.vtotal + i + 1 ≡ f * p.mode.vtotal + (i + 1) = omega arith in
-      let g : f * p.mode.vtotal + i + 1 ≡ f * p.mode.vtotal + (p.mode.vtotal - p.mode.height) + y = omega arith in
-      let left : p.mode.height - y ≡ suc (p.mode.height - (y + 1)) = omega (arith, plan.mode.vtotal.0) in
-      lines_one p pixels (f * p.mode.vtotal + i) n plan (within_frame p f i some (omega arith))
-      (ap (is_active p) e ∙ active_at p f (i + 1) (omega arith) behind)
-      ∙ ap (λ a. sent_line p pixels a ∷ lines_of (from p pixels (f * p.mode.vtotal + i + 1) n)) g
-      ∙ ap (λ xs. sent_line p pixels (f * p.mode.vtotal + (p.mode.vtotal - p.mode.height) + y) ∷ xs)
-      (ap (λ a. lines_of (from p pixels a n)) e
-      ∙ lines_behind p pixels f d (i + 1) (y + 1) n plan (omega arith) (omega arith) (omega arith) (omega arith))
-      ∙ ap (λ k. map (λ z. sent_line p pixels (f * p.mode.vtotal + (p.mode.vtotal - p.mode.height) + z))
+      | inl before ↦
+          let e : f * p.mode.vtotal + i + 1 ≡ f * p.mode.vtotal + (i + 1) = omega arith in
+          lines_none p pixels (f * p.mode.vtotal + i) n (within_frame p f i some (omega arith))
+          (ap (is_active p) e ∙ blank_at p f (i + 1) (omega arith) before)
+          ∙ ap (λ a. lines_of (from p pixels a n)) e
+          ∙ lines_behind p pixels f d (i + 1) y n plan (omega arith) (omega arith) (omega arith) (omega arith)
+      | inr behind ↦
+          let e : f * p.mode.vtotal + i + 1 ≡ f * p.mode.vtotal + (i + 1) = omega arith in
+          let g : f * p.mode.vtotal + i + 1 ≡ f * p.mode.vtotal + (p.mode.vtotal - p.mode.height) + y = omega arith in
+          let left : p.mode.height - y ≡ suc (p.mode.height - (y + 1)) = omega (arith, plan.mode.vtotal.0) in
+          lines_one p pixels (f * p.mode.vtotal + i) n plan (within_frame p f i some (omega arith))
+          (ap (is_active p) e ∙ active_at p f (i + 1) (omega arith) behind)
+          ∙ ap (λ a. sent_line p pixels a ∷ lines_of (from p pixels (f * p.mode.vtotal + i + 1) n)) g
+          ∙ ap (λ xs. sent_line p pixels (f * p.mode.vtotal + (p.mode.vtotal - p.mode.height) + y) ∷ xs)
+          (ap (λ a. lines_of (from p pixels a n)) e
+          ∙ lines_behind p pixels f d (i + 1) (y + 1) n plan (omega arith) (omega arith) (omega arith) (omega arith))
+          ∙ ap (λ k. map (λ z. sent_line p pixels (f * p.mode.vtotal + (p.mode.vtotal - p.mode.height) + z))
           (range_with_len y k)) (sym left)
-]
+    ]
 
 -- ---- frame by frame
 
@@ -274,20 +278,20 @@ told_frame p pixels f = record { rows = attribute_rows p; lines = sent_lines p p
 
 told_here : (p : PlanFacts) (pixels : List Pixel) (f n : ℕ) → IsPlan p → p.mode.vtotal ≤ n + 2
     → frame_parts (from p pixels (f * p.mode.vtotal) (suc n))
-        ≡ told_frame p pixels f ∷ frame_parts (from p pixels (f * p.mode.vtotal + 1) n)
+    ≡ told_frame p pixels f ∷ frame_parts (from p pixels (f * p.mode.vtotal + 1) n)
 unfolding told_frame
 told_here p pixels f n plan room =
     let z : p.mode.height - 0 ≡ p.mode.height = omega arith in
     told_first p pixels (f * p.mode.vtotal) n plan (begins_at p f plan)
     ∙ ap (λ l. record { rows = attribute_rows p; lines = l } ∷ frame_parts (from p pixels (f * p.mode.vtotal + 1) n))
     (lines_behind p pixels f (p.mode.vtotal - 2) 1 0 n plan (omega arith) (omega (arith, plan.mode.vtotal.0))
-        (omega arith) (omega (arith, plan.mode.vtotal.0))
+    (omega arith) (omega (arith, plan.mode.vtotal.0))
     ∙ ap (sent_lines p pixels f 0) z)
 
 -- the lines behind the first tell no attributes, up to the next frame and up to the end
 skip_frame : (p : PlanFacts) (pixels : List Pixel) (f d i m : ℕ) → 1 ≤ i → i + d ≡ p.mode.vtotal
     → frame_parts (from p pixels (f * p.mode.vtotal + i) (d + m))
-        ≡ frame_parts (from p pixels ((f + 1) * p.mode.vtotal) m)
+    ≡ frame_parts (from p pixels ((f + 1) * p.mode.vtotal) m)
 skip_frame p pixels f zero i m some is =
     let e : 0 + m ≡ m = omega arith in
     let g : f * p.mode.vtotal + i ≡ (f + 1) * p.mode.vtotal = omega arith in
@@ -315,17 +319,17 @@ skip_last p pixels f (suc n) i some is =
 
 pub told_frames : (p : PlanFacts) (pixels : List Pixel) (f m : ℕ) → IsPlan p
     → frame_parts (from p pixels (f * p.mode.vtotal) (suc m * p.mode.vtotal - 1))
-        ≡ map (told_frame p pixels) (range_with_len f (suc m))
+    ≡ map (told_frame p pixels) (range_with_len f (suc m))
 told_frames p pixels f zero plan =
     let e : suc zero * p.mode.vtotal - 1 ≡ suc (p.mode.vtotal - 2) = omega (arith, plan.mode.vtotal.0) in
     ap (λ k. frame_parts (from p pixels (f * p.mode.vtotal) k)) e
     ∙ told_here p pixels f (p.mode.vtotal - 2) plan (omega arith)
     ∙ ap (λ ts. told_frame p pixels f ∷ ts) (skip_last p pixels f (p.mode.vtotal - 2) 1 (omega arith)
-        (omega (arith, plan.mode.vtotal.0)))
+    (omega (arith, plan.mode.vtotal.0)))
 told_frames p pixels f (suc m) plan =
     let n : ℕ = suc m * p.mode.vtotal - 1 in
     let e : suc (suc m) * p.mode.vtotal - 1 ≡ suc (p.mode.vtotal - 1 + (suc m * p.mode.vtotal - 1)) =
-        omega (arith, plan.mode.vtotal.0) in
+    omega (arith, plan.mode.vtotal.0) in
     ap (λ k. frame_parts (from p pixels (f * p.mode.vtotal) k)) e
     ∙ told_here p pixels f (p.mode.vtotal - 1 + n) plan (omega arith)
     ∙ ap (λ ts. told_frame p pixels f ∷ ts)

@@ -85,7 +85,7 @@ trip m link h =
 dealt : Lanes → List ℕ → List (List ℕ)
 dealt lanes bytes =
     map (λ index. map (λ lane. get_or bytes (column_symbol lanes lane index) 0) (range_with_len 0 (lanes_count lanes)))
-        (range_with_len 0 (36 / lanes_count lanes))
+    (range_with_len 0 (36 / lanes_count lanes))
 
 -- the byte at a place comes back, where the place is that of the lane's byte at its index
 byte_back : (lanes : Lanes) (bytes : List ℕ) (place lane index : ℕ) → index < 36 / lanes_count lanes
@@ -96,9 +96,9 @@ unfolding dealt
 byte_back lanes bytes place lane index i l e =
     ap (λ row. get_or row lane 0)
     (get_or-map-range_with_len (λ n. map (λ k. get_or bytes (column_symbol lanes k n) 0)
-        (range_with_len 0 (lanes_count lanes))) 0 (36 / lanes_count lanes) index index [] i (omega arith))
+    (range_with_len 0 (lanes_count lanes))) 0 (36 / lanes_count lanes) index index [] i (omega arith))
     ∙ get_or-map-range_with_len (λ k. get_or bytes (column_symbol lanes k index) 0) 0 (lanes_count lanes) lane lane 0 l
-        (omega arith)
+    (omega arith)
     ∙ ap (λ z. get_or bytes z 0) e
 
 gathered_back : (lanes : Lanes) (bytes : List ℕ) → length bytes ≡ 36
@@ -106,17 +106,17 @@ gathered_back : (lanes : Lanes) (bytes : List ℕ) → length bytes ≡ 36
 unfolding gathered
 gathered_back One bytes h =
     map_range_is (λ place. get_or (get_or (dealt One bytes) (place / 9 / 1 * 9 + place % 9) [])
-        (place / 9 % 1) 0) 0 36 bytes 0 h
+    (place / 9 % 1) 0) 0 36 bytes 0 h
     (λ p l. let z : 0 + p ≡ p = omega arith in
     rw z (byte_back One bytes p (p / 9 % 1) (p / 9 / 1 * 9 + p % 9) (omega arith) (omega arith) (omega arith)))
 gathered_back Two bytes h =
     map_range_is (λ place. get_or (get_or (dealt Two bytes) (place / 9 / 2 * 9 + place % 9) [])
-        (place / 9 % 2) 0) 0 36 bytes 0 h
+    (place / 9 % 2) 0) 0 36 bytes 0 h
     (λ p l. let z : 0 + p ≡ p = omega arith in
     rw z (byte_back Two bytes p (p / 9 % 2) (p / 9 / 2 * 9 + p % 9) (omega arith) (omega arith) (omega arith)))
 gathered_back Four bytes h =
     map_range_is (λ place. get_or (get_or (dealt Four bytes) (place / 9 / 4 * 9 + place % 9) [])
-        (place / 9 % 4) 0) 0 36 bytes 0 h
+    (place / 9 % 4) 0) 0 36 bytes 0 h
     (λ p l. let z : 0 + p ≡ p = omega arith in
     rw z (byte_back Four bytes p (p / 9 % 4) (p / 9 / 4 * 9 + p % 9) (omega arith) (omega arith) (omega arith)))
 
@@ -129,4 +129,4 @@ pub read_back : (p : PlanFacts) → IsLegal p.mode
 unfolding attribute_rows dealt
 read_back p h =
     ap reading (gathered_back p.link.lanes (attributes_bytes p.mode p.link) (length_bytes p.mode p.link))
-        ∙ trip p.mode p.link h
+    ∙ trip p.mode p.link h

@@ -51,10 +51,10 @@ attributes_are : (p : PlanFacts) → AreRows (plan_lanes p) (attribute_rows p)
 unfolding attribute_rows
 attributes_are p =
     let row = λ (index : ℕ). map (λ lane. Rattle.std.specs.Prelude.get_or (attributes_bytes p.mode p.link)
-        (column_symbol p.link.lanes lane index) 0) (range_with_len 0 (plan_lanes p)) in (
+    (column_symbol p.link.lanes lane index) 0) (range_with_len 0 (plan_lanes p)) in (
       all_map_range (λ row. length row ≡ plan_lanes p) row 0 (36 / plan_lanes p)
           (λ i l. length-map-range_with_len (λ lane. Rattle.std.specs.Prelude.get_or (attributes_bytes p.mode p.link)
-              (column_symbol p.link.lanes lane (0 + i)) 0) 0 (plan_lanes p)),
+          (column_symbol p.link.lanes lane (0 + i)) 0) 0 (plan_lanes p)),
       length-map-range_with_len row 0 (36 / plan_lanes p),
     )
 
@@ -149,7 +149,7 @@ are_periods p pixels n = record {
 
 one_id_of : (lanes : Lanes) (m : ModeFacts) (blank : Bool)
     → AreProgressive (copies (map (λ i. replicate (lanes_count lanes) (block_byte m blank i))
-        (range_with_len 0 (12 / lanes_count lanes))))
+    (range_with_len 0 (12 / lanes_count lanes))))
 one_id_of One m true = (refl, (refl, (refl, (refl, tt))))
 one_id_of One m false = (refl, (refl, (refl, (refl, tt))))
 one_id_of Two m true = (refl, (refl, (refl, (refl, tt))))
@@ -179,9 +179,11 @@ blank_id p false n = fillers_id n (zero_row p)
 active_id : (p : PlanFacts) (pixels : List Pixel) (line : ℕ) (active : Bool)
     → AllByRecursion HasOneId (active_of p pixels line active)
 unfolding active_of
-active_id p pixels line true =
-    (tt, shown_id (shown_line (timing p) (line_bytes p pixels line) (zero_row p))
-        (line_shown (timing p) (line_bytes p pixels line) (zero_row p)))
+active_id p pixels line true = (
+  tt,
+  shown_id (shown_line (timing p) (line_bytes p pixels line) (zero_row p))
+      (line_shown (timing p) (line_bytes p pixels line) (zero_row p)),
+)
 active_id p pixels line false = tt
 
 from_id : (p : PlanFacts) (pixels : List Pixel) (a n : ℕ) → AllByRecursion HasOneId (from p pixels a n)
@@ -194,7 +196,7 @@ from_id p pixels a (suc n) = (
     all_append HasOneId (blank_of p (begins_frame p a) (spare p a) ++ active_of p pixels (a + 1) (is_active p (a + 1)))
         (from p pixels (a + 1) n)
         (all_append HasOneId (blank_of p (begins_frame p a) (spare p a))
-            (active_of p pixels (a + 1) (is_active p (a + 1)))
+        (active_of p pixels (a + 1) (is_active p (a + 1)))
         (blank_id p (begins_frame p a) (spare p a)) (active_id p pixels (a + 1) (is_active p (a + 1))))
         (from_id p pixels (a + 1) n),
   ),
@@ -204,16 +206,16 @@ from_id p pixels a (suc n) = (
 
 last_sets : (p : PlanFacts) (pixels : List Pixel) (at : ℕ → List Sym) (a : ℕ) → IsTable p pixels at → a < lines p
     → map at (range_with_len (head_at p a) (group_length p.link + 12 / plan_lanes p))
-        ≡ flat_map (sets_of p.link.enhanced (plan_lanes p)) (from p pixels a 0)
+    ≡ flat_map (sets_of p.link.enhanced (plan_lanes p)) (from p pixels a 0)
 unfolding from
 last_sets p pixels at a table within =
     map_range_cut at (head_at p a) (group_length p.link) (group_length p.link + 12 / plan_lanes p)
-        (head_at p a + group_length p.link) (12 / plan_lanes p) refl refl
+    (head_at p a + group_length p.link) (12 / plan_lanes p) refl refl
     ∙ ap (λ xs. xs ++ map at (range_with_len (head_at p a + group_length p.link) (12 / plan_lanes p)))
-        (head_sets p pixels at a table within)
+    (head_sets p pixels at a table within)
     ∙ ap (λ xs. sets_of p.link.enhanced (plan_lanes p) (group (resets a)) ++ xs)
     (id_sets p pixels at a table within ∙ sym
-        (append-nil (sets_of p.link.enhanced (plan_lanes p) (block (id_rows p a)))))
+    (append-nil (sets_of p.link.enhanced (plan_lanes p) (block (id_rows p a)))))
 
 -- headers come in the order of their lines
 pub heads_rise : (p : PlanFacts) (a n : ℕ) → IsPlan p → head_at p a ≤ head_at p (a + n)
@@ -225,13 +227,13 @@ heads_rise p a (suc n) plan =
 from_sets : (p : PlanFacts) (pixels : List Pixel) (at : ℕ → List Sym) (a n : ℕ) → IsPlan p → IsTable p pixels at
     → a + n < lines p
     → map at (range_with_len (head_at p a) (head_at p (a + n) +
-        (group_length p.link + 12 / plan_lanes p) - head_at p a))
-        ≡ flat_map (sets_of p.link.enhanced (plan_lanes p)) (from p pixels a n)
+    (group_length p.link + 12 / plan_lanes p) - head_at p a))
+    ≡ flat_map (sets_of p.link.enhanced (plan_lanes p)) (from p pixels a n)
 unfolding from
 from_sets p pixels at a zero plan table within =
     let z : a + 0 ≡ a = omega arith in
     let e : head_at p (a + 0) + (group_length p.link + 12 / plan_lanes p) - head_at p a
-        ≡ group_length p.link + 12 / plan_lanes p = omega (arith, ap (head_at p) z) in
+    ≡ group_length p.link + 12 / plan_lanes p = omega (arith, ap (head_at p) z) in
     ap (λ k. map at (range_with_len (head_at p a) k)) e ∙ last_sets p pixels at a table (omega arith)
 from_sets p pixels at a (suc n) plan table within =
     let q : ℕ = group_length p.link + 12 / plan_lanes p in
@@ -241,12 +243,12 @@ from_sets p pixels at a (suc n) plan table within =
     let sum : head_at p (a + suc n) + q - head_at p a ≡ d + (head_at p (a + 1 + n) + q - head_at p (a + 1)) =
     omega (arith, far, apart p a plan, heads_rise p (a + 1) n plan) in
     map_range_cut at (head_at p a) d (head_at p (a + suc n) + q - head_at p a) (head_at p (a + 1))
-        (head_at p (a + 1 + n) + q - head_at p (a + 1)) sum
+    (head_at p (a + 1 + n) + q - head_at p (a + 1)) sum
     (omega (arith, apart p a plan))
     ∙ ap (λ xs. xs ++ map at (range_with_len (head_at p (a + 1)) (head_at p (a + 1 + n) + q - head_at p (a + 1))))
     (period_sets p pixels at a plan table (omega arith))
     ∙ ap (λ xs. flat_map (sets_of p.link.enhanced (plan_lanes p)) (period p pixels a) ++ xs)
-        (from_sets p pixels at (a + 1) n plan table (omega arith))
+    (from_sets p pixels at (a + 1) n plan table (omega arith))
     ∙ sym (flat_map_append (sets_of p.link.enhanced (plan_lanes p)) (period p pixels a) (from p pixels (a + 1) n))
 
 -- ---- the law
@@ -264,12 +266,12 @@ last_head p n plan e =
 pub is_cut : (p : PlanFacts) (pixels : List Pixel) (at : ℕ → List Sym) (n : ℕ) → IsPlan p → IsTable p pixels at
     → lines p ≡ suc n
     → IsCut p.link.enhanced (plan_lanes p) (map at (range_with_len (head_at p 0) (clocks p - head_at p 0)))
-        (from p pixels 0 n) (filler (zero_row p)) []
+    (from p pixels 0 n) (filler (zero_row p)) []
 is_cut p pixels at n plan table e =
     let z : 0 + n ≡ n = omega arith in
     let k : clocks p - head_at p 0 ≡ head_at p (0 + n) + (group_length p.link + 12 / plan_lanes p) - head_at p 0 =
     ap (λ c. c - head_at p 0) (last_head p n plan e
-        ∙ ap (λ m. head_at p m + (group_length p.link + 12 / plan_lanes p)) (sym z)) in
+    ∙ ap (λ m. head_at p m + (group_length p.link + 12 / plan_lanes p)) (sym z)) in
     record {
       back = data_set (zero_row p) ∷ [];
       more = [];
@@ -286,7 +288,7 @@ receives : (p : PlanFacts) (pixels : List Pixel) (at : ℕ → List Sym) (n m : 
     → IsTable p pixels at
     → lines p ≡ suc n → p.frames ≡ suc m
     → Receives p.link.enhanced (plan_lanes p) (map at (range_with_len (head_at p 0) (clocks p - head_at p 0)))
-        (sent_frames p pixels) 0
+    (sent_frames p pixels) 0
 receives p pixels at n m plan all table e f =
     let parts : List Part = from p pixels 0 n in
     let nil : parts ++ [] ≡ parts = append-nil parts in

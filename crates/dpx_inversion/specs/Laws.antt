@@ -1,21 +1,19 @@
 -- What a source sends is received.
-use Rattle.std.specs.Prelude.{ℕ, Bool, true, false, not, ◌==◌, ◌||◌, ◌≢◌, replicate, ◌≡◌, ◌<◌, ◌+◌, ◌-◌, ◌*◌, ◌++◌}
+use Rattle.std.specs.Prelude.{ℕ, Bool, true, not, ◌==◌, ◌||◌, replicate, ◌≡◌, ◌<◌, ◌+◌, ◌*◌, ◌++◌}
 use Rattle.std.specs.Prelude.{List, map, drop, length, slice_index_or}
 use Rattle.std.specs.List.{AllByRecursion, range_with_len, flat_map}
 use Rattle.dpx_base.specs.declared.pixel.Pixel.{Pixel}
 use Rattle.dpx_base.specs.declared.sym.Sym.{Sym}
-use Rattle.dpx_base.specs.declared.lanes.Lanes.{Lanes}
-use Rattle.dpx_base.specs.Lanes.{lanes_count}
 use Rattle.dpx_base.specs.Mode.{depth_bits}
-use Rattle.dpx_base.specs.Plan.{PlanFacts, clocks, IsPlan}
+use Rattle.dpx_base.specs.Plan.{PlanFacts, IsPlan}
 use Rattle.dpx_base.specs.Sets.{black, set_at, sets}
-use Rattle.dpx_base.specs.Symbols.{control_symbol, cp, bs, be, sr, bf, ss, se, fs, fe}
+use Rattle.dpx_base.specs.Symbols.{cp, bs, be, sr, bf, ss, se, fs, fe}
 use Rattle.dpx_grammar.specs.Parts.{data_set, control_set, group_sets}
 use Rattle.dpx_msa.specs.Reading.{attributes_of}
 use Rattle.dpx_base.specs.Unpacking.{InRange}
 use Rattle.dpx_base.specs.Slots.{header_start}
 use Rattle.dpx_inversion.specs.Source.{plan_lanes, zero_row}
-use Rattle.dpx_grammar.specs.Accepted.{Frame, Receives, IsAccepted}
+use Rattle.dpx_grammar.specs.Accepted.{Frame, Receives}
 
 -- line y of all lines that have pixels
 unfoldable pub row_of_pixels : PlanFacts → List Pixel → (y : ℕ) → List Pixel
@@ -64,13 +62,13 @@ StartsWithGroup =
     (p : PlanFacts) (pixels : List Pixel) → IsPlan p
     → (rest : List (List Sym))
     × (sets p pixels ≡ map data_set (replicate (header_start p 0) (zero_row p)) ++
-        (group_sets p.link.enhanced (plan_lanes p) sr ++ rest))
+    (group_sets p.link.enhanced (plan_lanes p) sr ++ rest))
 
 -- the nine control symbols
 abbrev pub is_control : ℕ → Bool
 is_control byte =
     byte == bs || byte == be || byte == sr || byte == bf || byte == ss || byte == se || byte == fs || byte ==
-        fe || byte == cp
+    fe || byte == cp
 
 -- a data symbol of a byte, or one of the nine
 abbrev pub CanBeSent : Sym → Type 0

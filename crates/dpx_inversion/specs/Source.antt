@@ -27,13 +27,13 @@ id_row p line i = replicate (plan_lanes p) (block_byte p.mode (not (is_active p 
 unfoldable pub attribute_rows : PlanFacts → List (List ℕ)
 attribute_rows p =
     map (λ index. map (λ lane. slice_index (attributes_bytes p.mode p.link) (column_symbol p.link.lanes lane index))
-        (range_with_len 0 (plan_lanes p)))
+    (range_with_len 0 (plan_lanes p)))
     (range_with_len 0 (36 / plan_lanes p))
 
 abbrev pub attribute_sets : PlanFacts → List (List Sym)
 attribute_sets p =
     control_set (plan_lanes p) ss ∷ control_set (plan_lanes p) ss ∷
-        (map data_set (attribute_rows p) ++ control_set (plan_lanes p) se ∷ [])
+    (map data_set (attribute_rows p) ++ control_set (plan_lanes p) se ∷ [])
 
 unfoldable pub zero_row : PlanFacts → List ℕ
 zero_row p = replicate (plan_lanes p) 0
@@ -62,7 +62,7 @@ pub record IsTable (p : PlanFacts) (pixels : List Pixel) (at : ℕ → List Sym)
   pub stuffed : (line k i : ℕ) → line < lines p → is_active p line ≡ true → k < last_unit (timing p)
       → carried (timing p) (k + 1) ≤ carried (timing p) k + i → i < p.unit
       → at (start (timing p) line + k * p.unit + i)
-          ≡ stuffing_set p (carried (timing p) (k + 1) - carried (timing p) k) i
+      ≡ stuffing_set p (carried (timing p) (k + 1) - carried (timing p) k) i
   pub headed : (line i : ℕ) → line < lines p → i < group_length p.link
       → at (head_at p line + i) ≡ slice_index_or
       (group_sets p.link.enhanced (plan_lanes p) (group_code (resets line))) i []

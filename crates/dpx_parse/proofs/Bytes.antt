@@ -68,7 +68,7 @@ flat_at lanes (row ∷ rows) zero l h a b =
 flat_at lanes (row ∷ rows) (suc r) l h a b =
     let e : suc r * lanes + l ≡ lanes + (r * lanes + l) = omega arith in
     ap (λ n. get_or (row ++ flat rows) n 0) (e ∙ ap (λ n. n + (r * lanes + l)) (sym h.0))
-        ∙ back_at row (flat rows) (r * lanes + l)
+    ∙ back_at row (flat rows) (r * lanes + l)
     ∙ flat_at lanes rows r l h.1 (omega arith) b
 
 row_below : (lanes : Lanes) (i : ℕ) → i < 36
@@ -84,16 +84,16 @@ unfolding dealt gathered
 dealt_is lanes rows h n =
     map_range_same (λ place. slice_index (flat rows) (dealt_place (lanes_count lanes) place))
     (λ place. slice_index (slice_index_or rows (place / 9 / lanes_count lanes * 9 + place % 9) [])
-        (place / 9 % lanes_count lanes)) 0 0 36
+    (place / 9 % lanes_count lanes)) 0 0 36
     (λ i l.
     let e : 0 + i ≡ i = omega arith in
     let b = row_below lanes i l in
     subst
     (λ j. slice_index (flat rows) (dealt_place (lanes_count lanes) j)
-        ≡ slice_index (slice_index_or rows (j / 9 / lanes_count lanes * 9 + j % 9) []) (j / 9 % lanes_count lanes))
+    ≡ slice_index (slice_index_or rows (j / 9 / lanes_count lanes * 9 + j % 9) []) (j / 9 % lanes_count lanes))
     (sym e)
     (flat_at (lanes_count lanes) rows (i / 9 / lanes_count lanes * 9 + i % 9) (i / 9 % lanes_count lanes) h
-        (subst (λ m. i / 9 / lanes_count lanes * 9 + i % 9 < m) (sym n) b.0) b.1))
+    (subst (λ m. i / 9 / lanes_count lanes * 9 + i % 9 < m) (sym n) b.0) b.1))
 
 -- ---- copies of VB-ID
 
@@ -142,7 +142,7 @@ first_more (x ∷ xs) b row = refl
 -- a list written place by place
 pub set_more : (f : ℕ → ℕ) (xs : List ℕ) (place y : ℕ) → place < length xs → y ≡ f place
     → ((i : ℕ) → i < place → slice_index xs i ≡ f i) → (i : ℕ) → i < place + 1
-        → slice_index (slice_set xs place y) i ≡ f i
+    → slice_index (slice_set xs place y) i ≡ f i
 set_more f xs place y h e all i l = go (i == place) refl
   where
     go : (b : Bool) → (i == place) ≡ b → slice_index (slice_set xs place y) i ≡ f i

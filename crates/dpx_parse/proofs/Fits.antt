@@ -32,13 +32,13 @@ below m n h = grind arith
 small_sizes : (b : List ℕ) (d : Depth) (a : Attributes) → read_sizes b d ≡ Ok a → AreSmall a
 small_sizes b d a e =
     go (slice_index b 34 == 0) (nat_le 16 (two_at b 21)) (nat_le (two_at b 21) 8192) (nat_le 1 (two_at b 23))
-        (nat_le (two_at b 23) 8192) (three_at b 30 == 0)
+    (nat_le (two_at b 23) 8192) (three_at b 30 == 0)
     refl refl e
   where
     go : (p w x h y z : Bool) → nat_le (two_at b 21) 8192 ≡ x → nat_le (two_at b 23) 8192 ≡ y
         → (if not p then Err (Misc1 (slice_index b 34)) else (if not (w && x) then Err (Width (two_at b 21))
         else (if not (h && y) then Err (Height (two_at b 23)) else
-            (if z then Err NvidZero else Ok (attributes_at b d))))) ≡ Ok a
+        (if z then Err NvidZero else Ok (attributes_at b d))))) ≡ Ok a
         → AreSmall a
     go false w x h y z ex ey e = absurd (no_ok _ a e)
     go true false x h y z ex ey e = absurd (no_ok _ a e)

@@ -1,5 +1,5 @@
 -- The place that the reading has come to, and the prefix of a list of periods that stands before it.
-use Rattle.std.proofs.Common.{ℕ, ◌/◌, ◌≡◌, ◌∙◌, List, [], ◌∷◌, ◌++◌, Some, Bool, map, refl, sym, ap, subst}
+use Rattle.std.proofs.Common.{◌/◌, ◌≡◌, ◌∙◌, List, [], ◌∷◌, ◌++◌, Bool, map, sym, ap, subst}
 use Rattle.std.specs.List.{AllByRecursion, flat_map}
 use Rattle.dpx_base.specs.declared.lanes.Lanes.{Lanes}
 use Rattle.dpx_base.specs.declared.sym.Sym.{Sym}
@@ -30,7 +30,7 @@ pub cut_read : (l : Lanes) (e : Bool) (sets : List (List Sym)) (whole : List Par
 cut_read l e sets whole next front c =
     let b = blocks l in
     let r : IsRun e (lanes_count l) b.0 sets whole next front =
-        cut_runs e (lanes_count l) b.0 sets whole next front b.1 c in
+    cut_runs e (lanes_count l) b.0 sets whole next front b.1 c in
     record {
       place = r.place;
       reads = record {
@@ -45,7 +45,7 @@ cut_read l e sets whole next front c =
 -- a prefix of the sets that were read has their whole parts and their place
 pub cut_is : (l : Lanes) (e : Bool) (sets : List (List Sym)) (whole others : List Part) (place : Place) (next : Part)
     (front : List (List Sym)) → Reads e (lanes_count l) sets whole place
-        → IsCut e (lanes_count l) sets others next front
+    → IsCut e (lanes_count l) sets others next front
     → (others ≡ whole) × (begun_of place ≡ begun next front)
 cut_is l e sets whole others place next front r c =
     let q : CutRead e l sets others next front = cut_read l e sets others next front c in

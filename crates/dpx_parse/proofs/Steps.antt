@@ -1,8 +1,8 @@
 -- The machine's table is that of the reading part by part.
-use Rattle.std.proofs.Common.{ℕ, zero, suc, ◌%◌, ◌≤◌, ◌≡◌, List, [], ◌∷◌, Bool, true, false, Option, Some, None, refl}
+use Rattle.std.proofs.Common.{ℕ, zero, suc, ◌%◌, ◌≤◌, ◌≡◌, Bool, true, false, Option, Some, None, refl}
 use Rattle.std.proofs.Common.{arith}
 use Rattle.std.specs.Prelude.{⊤, ◌==◌, ◌-◌, nat_le, if◌then◌else◌}
-use Rattle.dpx_grammar.specs.Parts.{Part, group}
+use Rattle.dpx_grammar.specs.Parts.{Part}
 use Rattle.dpx_grammar.specs.Machine.{Code, a_bs, a_sr, a_be, an_ss, an_se, an_fs, an_fe, a_bf, Token, row, code, Place}
 use Rattle.dpx_grammar.specs.Machine.{start, head, ids, blank, opened, numbers, packet, active, fill, step}
 use Rattle.dpx_parse.specs.State.{next, in_ids, in_numbers}

@@ -13,7 +13,9 @@ use Rattle.dpx_parse.specs.declared.counts.Counts.{Counts}
 use Rattle.dpx_parse.specs.declared.state.Mark.TheVariants.{Head}
 use Rattle.dpx_parse.proofs.Steps.{mark_at}
 use Rattle.dpx_parse.proofs.Keeps.{Kept, stay, open_kept, number_kept, filler_kept, secondary_kept, stuffing_kept}
-use Rattle.dpx_parse.proofs.Keeps.{head_kept, end_kept, begin_kept, valid_kept, id_kept, one_row}
+use Rattle.dpx_parse.proofs.Keeps.{head_kept, one_row}
+use Rattle.dpx_parse.proofs.KeepsLines.{end_kept, begin_kept, valid_kept}
+use Rattle.dpx_parse.proofs.KeepsIds.{id_kept}
 
 abbrev pub grown_back : List Part → Option Part → List Part
 grown_back whole None = whole
@@ -37,7 +39,7 @@ told_ids whole (r ∷ rows) x n = refl
 group_kept : (l : Lanes) (c : Counts) (whole : List Part) (s : Place) (reset : Bool) (other : List ℕ)
     → Knows (lanes_count l) c whole s
     → AllStand (lanes_count l) whole → 1 ≤ 12 / lanes_count l
-        → Kept (lanes_count l) c whole (group reset ∷ whole) (ids [] (12 / lanes_count l)) Head other
+    → Kept (lanes_count l) c whole (group reset ∷ whole) (ids [] (12 / lanes_count l)) Head other
 group_kept l c whole s reset other k h b =
     head_kept (lanes_count l) c whole s reset other (ids [] (12 / lanes_count l)) refl
     (λ d e. (tt, let z : 0 + 12 / lanes_count l ≡ 12 / lanes_count l = omega arith in z, b, e)) k h
@@ -52,10 +54,10 @@ kept false l c whole start (code a_sr) other g k h b = group_kept l c whole star
 kept e l c whole start t other g k h b = tt
 kept e l c whole (head reset (suc zero)) (code a_bf) other g k h b =
     stay (lanes_count l) c (group reset ∷ whole) (head reset 1) (head reset 2) other k h refl
-        (omega arith, omega arith, k.at.2)
+    (omega arith, omega arith, k.at.2)
 kept e l c whole (head reset (suc (suc zero))) (code a_bf) other g k h b =
     stay (lanes_count l) c (group reset ∷ whole) (head reset 2) (head reset 3) other k h refl
-        (omega arith, omega arith, k.at.2)
+    (omega arith, omega arith, k.at.2)
 kept e l c whole (head true (suc (suc (suc zero)))) (code a_sr) other g k h b =
     stay (lanes_count l) c (group true ∷ whole) (head true 3) (ids [] (12 / lanes_count l)) other k h refl
     (tt, let z : 0 + 12 / lanes_count l ≡ 12 / lanes_count l = omega arith in z, b, k.at.2)
@@ -66,11 +68,15 @@ kept e l c whole (ids rows (suc zero)) (row bytes) other g k h b =
     id_kept l c whole rows 1 bytes blank g refl (λ d e. tt) k h
 kept e l c whole (ids rows (suc (suc n))) (row bytes) other g k h b =
     subst (λ x. Kept (lanes_count l) c (told whole (ids rows (suc (suc n)))) x (ids (rows ++ bytes ∷ []) (suc n))
-        (mark_at (ids rows (suc (suc n))) (row bytes)) bytes)
+    (mark_at (ids rows (suc (suc n))) (row bytes)) bytes)
     (sym (told_ids whole rows bytes (suc n)))
     (id_kept l c whole rows (suc (suc n)) bytes (ids (rows ++ bytes ∷ []) (suc n)) g refl
-    (λ d e. (one_row (lanes_count l) rows bytes k.at.0 g, omega (arith, length-append rows (bytes ∷ []), k.at.1),
-        omega arith, e)) k h)
+    (λ d e. (
+      one_row (lanes_count l) rows bytes k.at.0 g,
+      omega (arith, length-append rows (bytes ∷ []), k.at.1),
+      omega arith,
+      e,
+    )) k h)
 kept e l c whole blank (row bytes) other g k h b = filler_kept (lanes_count l) c whole bytes bytes k h
 kept true l c whole blank (code a_sr) other g k h b =
     head_kept (lanes_count l) c whole blank true other (head true 1) refl (λ d e. (omega arith, omega arith, e)) k h

@@ -108,9 +108,9 @@ pick n c k rest f g = go (n == c) refl
 pub byte_is : (n : ℕ) → IsByte (control_kind n) n
 byte_is n =
     pick n 0xbc Bs _ (λ e. e) (pick n 0x1c Sr _ (λ e. e)
-        (pick n 0xfb Be _ (λ e. e) (pick n 0x5c Ss _ (λ e. e) (pick n 0xfd Se _ (λ e. e)
+    (pick n 0xfb Be _ (λ e. e) (pick n 0x5c Ss _ (λ e. e) (pick n 0xfd Se _ (λ e. e)
     (pick n 0xfe Fs _ (λ e. e) (pick n 0xf7 Fe _ (λ e. e)
-        (pick n 0x7c Bf _ (λ e. e) (pick n 0x3c Cp Other (λ e. e) tt))))))))
+    (pick n 0x7c Bf _ (λ e. e) (pick n 0x3c Cp Other (λ e. e) tt))))))))
 
 abbrev IsControl : Kind → Type 0
 IsControl Data = ⊥
@@ -123,9 +123,9 @@ choose false k rest f g = g
 is_control : (n : ℕ) → IsControl (control_kind n)
 is_control n =
     choose (n == 0xbc) Bs _ tt (choose (n == 0x1c) Sr _ tt
-        (choose (n == 0xfb) Be _ tt (choose (n == 0x5c) Ss _ tt (choose (n == 0xfd) Se _ tt
+    (choose (n == 0xfb) Be _ tt (choose (n == 0x5c) Ss _ tt (choose (n == 0xfd) Se _ tt
     (choose (n == 0xfe) Fs _ tt (choose (n == 0xf7) Fe _ tt
-        (choose (n == 0x7c) Bf _ tt (choose (n == 0x3c) Cp Other tt tt))))))))
+    (choose (n == 0x7c) Bf _ tt (choose (n == 0x3c) Cp Other tt tt))))))))
 
 -- a token of this set
 pub record IsTokenOf (n : ℕ) (set : List Sym) (k : Kind) : Type 0 where
@@ -136,8 +136,12 @@ pub record IsTokenOf (n : ℕ) (set : List Sym) (k : Kind) : Type 0 where
 
 code_token : (n byte : ℕ) (set : List Sym) (c : Code) (k : Kind) → control_set n byte ≡ set → byte ≡ byte_of c
     → code_kind c ≡ k → IsTokenOf n set k
-code_token n byte set c k e f g = record { token = code c; sets = ap (λ b. control_set n b) (sym f) ∙ e; good = tt;
-    kind = g }
+code_token n byte set c k e f g = record {
+  token = code c;
+  sets = ap (λ b. control_set n b) (sym f) ∙ e;
+  good = tt;
+  kind = g;
+}
 
 control_token : (n byte : ℕ) (set : List Sym) (k : Kind) → control_set n byte ≡ set → IsByte k byte → IsControl k
     → k ≢ Cp → k ≢ Other → IsTokenOf n set k
@@ -172,8 +176,13 @@ find_token n (s ∷ set) k l h a b = go s.control refl
     go : (v : Bool) → s.control ≡ v → IsTokenOf n (s ∷ set) k
     go false e =
         let d : Data ≡ k = ap (λ v. if v then control_kind s.byte else Data) (sym e) ∙ h'.1 in
-        record { token = row (bytes_of (s ∷ set)); sets = all_data s (s ∷ set) e h'.0; good =
-            bytes_length (s ∷ set) ∙ l; kind = d }
+        record {
+          token = row (bytes_of (s ∷ set));
+          sets = all_data s (s ∷ set) e h'.0;
+          good =
+              bytes_length (s ∷ set) ∙ l;
+          kind = d;
+        }
     go true e =
         let d : control_kind s.byte ≡ k = ap (λ v. if v then control_kind s.byte else Data) (sym e) ∙ h'.1 in
         control_token n s.byte (s ∷ set) k (ap (λ m. control_set m s.byte) (sym l) ∙ all_code s (s ∷ set) e h'.0)
@@ -222,9 +231,10 @@ code_set n s set k l h a = go s.control refl
 
     go : (v : Bool) → s.control ≡ v → (s ∷ set ≡ control_set n s.byte) × (control_kind s.byte ≡ k)
     go false e = absurd (a (sym (ap (λ v. if v then control_kind s.byte else Data) (sym e) ∙ h'.1)))
-    go true e =
-        (sym (ap (λ m. control_set m s.byte) (sym l) ∙ all_code s (s ∷ set) e h'.0),
-            ap (λ v. if v then control_kind s.byte else Data) (sym e) ∙ h'.1)
+    go true e = (
+      sym (ap (λ m. control_set m s.byte) (sym l) ∙ all_code s (s ∷ set) e h'.0),
+      ap (λ v. if v then control_kind s.byte else Data) (sym e) ∙ h'.1,
+    )
 
 pub cp_set : (n : ℕ) (set : List Sym) → length set ≡ n → kind_of set ≡ Some Cp → set ≡ control_set n cp
 cp_set n [] l h = absurd (cc)

@@ -26,8 +26,12 @@ pub record Taken : Type 0 where
 abbrev pub by_fault : Core → List Sym → Mark → State → Option ParseWhy → Result Taken ParseWhy
 by_fault c set mark state (Some why) = Err why
 by_fault c set mark state None = Ok (record {
-  core = record c { state = state; counts = after (lanes_count c.lanes) c.counts mark (bytes_of set); unended =
-      open_after state c.unended };
+  core = record c {
+    state = state;
+    counts = after (lanes_count c.lanes) c.counts mark (bytes_of set);
+    unended =
+        open_after state c.unended;
+  };
   event = event_by (lanes_count c.lanes) c.counts mark (bytes_of set);
 })
 

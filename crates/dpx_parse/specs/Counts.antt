@@ -18,8 +18,15 @@ use Rattle.dpx_parse.specs.declared.state.Mark.TheVariants.{Head, Id, Opens, Num
 use Rattle.dpx_parse.specs.declared.state.Mark.TheVariants.{Other}
 
 abbrev pub no_counts : Counts
-no_counts = record { attributes = None; lines = 0; valids = 0; live = false; first = None; bytes = replicate 36 0;
-    taken = 0 }
+no_counts = record {
+  attributes = None;
+  lines = 0;
+  valids = 0;
+  live = false;
+  first = None;
+  bytes = replicate 36 0;
+  taken = 0;
+}
 
 -- one more, where the count has room in 32 bits
 abbrev pub one_more : ℕ → ℕ
@@ -29,8 +36,11 @@ abbrev pub headed : Counts → Counts
 headed c = record c { lines = if c.live then one_more c.lines else c.lines; live = false; first = None }
 
 abbrev pub with_row : Counts → List ℕ → Counts
-with_row c row = if nat_le (c.taken + length row) 36 then record c { bytes = put c.bytes c.taken row; taken =
-    c.taken + length row } else c
+with_row c row = if nat_le (c.taken + length row) 36 then record c {
+  bytes = put c.bytes c.taken row;
+  taken =
+      c.taken + length row;
+} else c
 
 abbrev pub read_by : ℕ → Counts → Result MsaAttributes MsaBad
 read_by lanes c = reading (dealt lanes c.bytes)

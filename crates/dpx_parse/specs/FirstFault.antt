@@ -32,7 +32,7 @@ IsUniform set = ((row : List ℕ) × (set ≡ data_set row)) ⊎ ((code : ℕ) �
 abbrev pub IsInGroup : Bool → ℕ → List (List Sym) → ℕ → Type 0
 IsInGroup enhanced lanes sets n =
     (whole : List Part) × (reset : Bool) × (front : List (List Sym))
-        × IsCut enhanced lanes sets whole (group reset) front × (length front ≡ n)
+    × IsCut enhanced lanes sets whole (group reset) front × (length front ≡ n)
 
 -- the reason of a uniform set that continues no prefix of a list of periods
 abbrev pub IsUnframed : Bool → ℕ → List (List Sym) → List Sym → ParseWhy → Type 0

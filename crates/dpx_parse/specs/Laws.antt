@@ -4,7 +4,8 @@ use Rattle.dpx_base.specs.declared.lanes.Lanes.{Lanes}
 use Rattle.dpx_base.specs.declared.sym.Sym.{Sym}
 use Rattle.dpx_base.specs.Lanes.{lanes_count}
 use Rattle.dpx_grammar.specs.Accepted.{Frame, Receives, IsAccepted}
-use Rattle.dpx_parse.specs.FirstFault.{HasNoFault}
+use Rattle.dpx_parse.specs.declared.bad.ParseWhy.{ParseWhy}
+use Rattle.dpx_parse.specs.FirstFault.{HasNoFault, IsReason}
 use Rattle.dpx_parse.specs.Received.{AreEvents, heard, frames_heard}
 use Rattle.dpx_parse.specs.declared.event.Event.{Event}
 
@@ -21,3 +22,10 @@ GivesFrames =
     (enhanced : Bool) (lanes : Lanes) (sets : List (List Sym)) (events : List Event) (frames : List Frame) (tail : ℕ)
     → AreEvents enhanced (lanes_count lanes) [] sets events → Receives enhanced (lanes_count lanes) sets frames tail
     → frames ≡ frames_heard (lanes_count lanes) (heard events)
+
+-- A set that is refused behind others has one reason.
+abbrev pub IsOneReason : Type 0
+IsOneReason =
+    (enhanced : Bool) (lanes : Lanes) (sets : List (List Sym)) (set : List Sym) (why other : ParseWhy)
+    → IsReason enhanced (lanes_count lanes) sets set why → IsReason enhanced (lanes_count lanes) sets set other
+    → why ≡ other

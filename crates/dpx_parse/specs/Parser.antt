@@ -2,13 +2,15 @@
 use Rattle.std.specs.Prelude.{ℕ, ◌≡◌, Bool, List, [], ◌∷◌, ◌++◌, length, Some, None}
 use Rattle.dpx_base.specs.declared.lanes.Lanes.{Lanes}
 use Rattle.dpx_base.specs.declared.sym.Sym.{Sym}
+use Rattle.dpx_base.specs.Lanes.{lanes_count}
+use Rattle.dpx_grammar.specs.Accepted.{Frame, Receives, IsAccepted}
 use Rattle.dpx_parse.specs.declared.bad.ParseBad.{ParseBad}
 use Rattle.dpx_parse.specs.declared.event.Event.{Event}
 use Rattle.dpx_parse.specs.declared.parser.Parser.{Parser}
 use Rattle.dpx_parse.specs.FirstFault.{IsEvent, IsFirstFault}
-use Rattle.dpx_grammar.specs.Accepted.{Frame, Receives, IsAccepted}
 use Rattle.dpx_parse.specs.Stands.{Stands, number_of}
 
+-- the link that it reads
 abbrev pub lanes_of : Parser → Lanes
 lanes_of p = p.core.lanes
 
@@ -25,19 +27,19 @@ abbrev pub HasRefused : Parser → ParseBad → Type 0
 HasRefused p bad = p.refused ≡ Some bad
 
 -- the set is accepted behind those, and tells this
-pub record Accepts (enhanced : Bool) (lanes : ℕ) (sets : List (List Sym)) (set : List Sym) (event : Event)
+pub record Accepts (enhanced : Bool) (lanes : Lanes) (sets : List (List Sym)) (set : List Sym) (event : Event)
     (now : Parser) : Type 0 where
   pub stands : StandsFor now (sets ++ set ∷ [])
-  pub accepted : IsAccepted enhanced lanes (sets ++ set ∷ [])
-  pub tells : IsEvent enhanced lanes sets set event
+  pub accepted : IsAccepted enhanced (lanes_count lanes) (sets ++ set ∷ [])
+  pub tells : IsEvent enhanced (lanes_count lanes) sets set event
 
--- the set is the first fault behind those
-pub record Refuses (enhanced : Bool) (lanes : ℕ) (sets : List (List Sym)) (set : List Sym)
+-- the set is the first fault behind those, which are counted as far as 64 bits go
+pub record Refuses (enhanced : Bool) (lanes : Lanes) (sets : List (List Sym)) (set : List Sym)
     (bad : ParseBad) : Type 0 where
   pub number : bad.set ≡ number_of (length sets)
-  pub fault : IsFirstFault enhanced lanes sets set bad.why
+  pub fault : IsFirstFault enhanced (lanes_count lanes) sets set bad.why
 
--- as many sets of an unfinished line as the sets have
-abbrev pub IsTail : Bool → ℕ → List (List Sym) → ℕ → Type 0
-IsTail enhanced lanes sets n = (frames : List Frame) (tail : ℕ) → Receives enhanced lanes sets frames tail
-    → n ≡ number_of tail
+-- so many sets has the unfinished line of whatever is received of these, as far as 64 bits go
+abbrev pub IsTail : Bool → Lanes → List (List Sym) → ℕ → Type 0
+IsTail enhanced lanes sets n =
+    (frames : List Frame) (tail : ℕ) → Receives enhanced (lanes_count lanes) sets frames tail → n ≡ number_of tail

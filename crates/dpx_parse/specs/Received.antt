@@ -46,6 +46,9 @@ lines_heard lanes a (_ ∷ es) = lines_heard lanes a es
 
 abbrev pub frames_heard : ℕ → List Event → List Frame
 frames_heard lanes [] = []
-frames_heard lanes (Attributes a ∷ es) = record { attributes = a; lines =
-    lines_heard lanes a es } ∷ frames_heard lanes es
+frames_heard lanes (Attributes a ∷ es) = record {
+  attributes = a;
+  lines =
+      lines_heard lanes a es;
+} ∷ frames_heard lanes es
 frames_heard lanes (_ ∷ es) = frames_heard lanes es

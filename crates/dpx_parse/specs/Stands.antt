@@ -49,7 +49,7 @@ AtPlace lanes c (ids rows n) = AreRows lanes rows × (length rows + n ≡ 12 / l
     × (c.first ≡ first_in (copies rows))
 AtPlace lanes c (numbers rows n) =
     AreRows lanes rows × (length rows + n ≡ 36 / lanes) × (c.taken ≡ length (flat rows))
-        × (take c.taken c.bytes ≡ flat rows)
+    × (take c.taken c.bytes ≡ flat rows)
 AtPlace lanes c _ = ⊤
 
 -- what is kept of the parts that are told
@@ -59,7 +59,7 @@ pub record Knows (lanes : ℕ) (c : Counts) (parts : List Part) (place : Place) 
   pub live_at : is_live parts ≡ is_live_at place
   pub lines : (a : Attributes) → in_force lanes parts ≡ Some a
       → (c.lines ≡ lines parts) × (lines parts + (if is_live parts then 1 else 0) ≤ a.height) × (a.height ≤ 8192)
-          × (line_length lanes a ≤ 65536)
+      × (line_length lanes a ≤ 65536)
   pub valids : (a : Attributes) → in_force lanes parts ≡ Some a → is_live parts ≡ true
       → (c.valids ≡ valids parts) × (valids parts ≤ line_length lanes a)
   pub room : length c.bytes ≡ 36

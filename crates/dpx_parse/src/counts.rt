@@ -52,7 +52,8 @@ impl Counts {
     ghost use Rattle.std.specs.Prelude.{◌≡◌, ◌≤◌, length};
     ghost use Rattle.dpx_base.specs.Lanes.{lanes_count};
     ghost use Rattle.dpx_base.specs.Symbols.{bytes_of};
-    ghost use Rattle.dpx_parse.specs.Counts.{no_counts, after, fault_by, event_by, headed, with_row, first_of, kept_ids, read_by};
+    ghost use Rattle.dpx_parse.specs.Counts.{no_counts, after, fault_by, event_by};
+    ghost use Rattle.dpx_parse.specs.Counts.{headed, with_row, first_of, kept_ids, read_by};
     ghost use Rattle.dpx_parse.specs.Faults.{end_fault, begin_fault, valid_fault, head_fault, id_fault};
 
     pub(crate) fn new() -> Counts

@@ -59,8 +59,10 @@ impl Core {
         requires { length set.now ≡ lanes_count self.old.lanes }
         ensures lanes { self.new.lanes ≡ self.old.lanes }
         ensures enhanced { self.new.enhanced ≡ self.old.enhanced }
-        ensures taken { IfOk result (λ event. taken_by self.old set.now ≡ Ok (record { core = self.new; event = event })) }
-        ensures refused { IfErr result (λ why. ◌≡◌ {A = Result Taken ParseWhy} (taken_by self.old set.now) (Err why)) }
+        ensures taken { IfOk result (λ event.
+            taken_by self.old set.now ≡ Ok (record { core = self.new; event = event })) }
+        ensures refused { IfErr result (λ why.
+            ◌≡◌ {A = Result Taken ParseWhy} (taken_by self.old set.now) (Err why)) }
     {
         let symbols = set.as_slice();
         let Some(kind) = kind_of(symbols) else {
