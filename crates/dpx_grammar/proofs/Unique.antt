@@ -10,7 +10,7 @@ use Rattle.dpx_base.specs.declared.pixel.Pixel.{Pixel}
 use Rattle.dpx_base.specs.declared.sym.Sym.{Sym}
 use Rattle.dpx_base.specs.Lanes.{lanes_count}
 use Rattle.dpx_msa.specs.declared.attributes.Attributes.{Attributes}
-use Rattle.dpx_msa.specs.declared.bad.MsaBad.{MsaBad}
+use Rattle.dpx_msa.specs.declared.msa_bad.MsaBad.{MsaBad}
 use Rattle.dpx_grammar.specs.Accepted.{FrameParts, Frame, IsFrame, AreFrames, frame_parts, unfinished, pixels_of}
 use Rattle.dpx_grammar.specs.Laws.{IsOneReception}
 use Rattle.dpx_grammar.specs.Parts.{Part, group, block, filler, attributes, secondary, begins, valid, stuffing, sets_of}

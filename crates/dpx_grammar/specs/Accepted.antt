@@ -11,7 +11,7 @@ use Rattle.dpx_base.specs.Mode.{depth_bits}
 use Rattle.dpx_base.specs.Timing.{symbols_of}
 use Rattle.dpx_base.specs.Unpacking.{unpacked}
 use Rattle.dpx_msa.specs.declared.attributes.Attributes.{Attributes}
-use Rattle.dpx_msa.specs.Reading.{reading}
+use Rattle.dpx_msa.specs.Reading.{read_attributes}
 use Rattle.dpx_grammar.specs.Gathered.{gathered}
 use Rattle.dpx_grammar.specs.Parts.{Part, group, block, attributes, begins, valid, stuffing, sets_of, IsCut, begun}
 
@@ -97,7 +97,7 @@ pixels_of lanes a lines =
 
 -- the attributes have a reading, and with the lines behind them are this frame
 pub record IsFrame (lanes : ℕ) (told : FrameParts) (frame : Frame) : Type 0 where
-  pub read : reading (gathered lanes told.rows) ≡ Ok frame.attributes
+  pub read : read_attributes (gathered lanes told.rows) ≡ Ok frame.attributes
   pub lengths : AllByRecursion (HasLength (line_length lanes frame.attributes)) told.lines
   pub lines : frame.lines ≡ pixels_of lanes frame.attributes told.lines
 

@@ -1,84 +1,20 @@
 -- The attributes that were sent are read.
 use Rattle.std.proofs.Common.{ℕ, ◌≡◌, ◌∙◌, ◌+◌, ◌*◌, ◌/◌, ◌%◌, ◌<◌, Bool, true, false, List, [], map, length, get_or}
 use Rattle.std.proofs.Common.{Ok, Some, refl, ap, arith}
-use Rattle.std.specs.Prelude.{nat_le, ◌==◌}
 use Rattle.std.specs.List.{range_with_len}
-use Rattle.std.proofs.lemmas.Bool.{le-leb}
 use Rattle.std.proofs.lemmas.List.FromFn.{get_or-map-range_with_len}
-use Rattle.dpx_base.specs.declared.depth.Depth.{Depth}
-use Rattle.dpx_base.specs.declared.depth.Depth.TheVariants.{Six, Eight, Ten, Twelve, Sixteen}
 use Rattle.dpx_base.specs.declared.lanes.Lanes.{Lanes}
 use Rattle.dpx_base.specs.declared.lanes.Lanes.TheVariants.{One, Two, Four}
 use Rattle.dpx_base.specs.declared.link.Link.{Link}
-use Rattle.dpx_base.specs.declared.rate.Rate.{Rate}
-use Rattle.dpx_base.specs.declared.rate.Rate.TheVariants.{Rbr, Hbr, Hbr2, Hbr3}
-use Rattle.dpx_base.specs.Attributes.{with_polarity, misc0_of, attributes_bytes, column_symbol}
+use Rattle.dpx_base.specs.Attributes.{attributes_bytes, column_symbol}
 use Rattle.dpx_base.specs.Lanes.{lanes_count}
 use Rattle.dpx_base.specs.Mode.{ModeFacts, IsLegal}
 use Rattle.dpx_base.specs.Plan.{PlanFacts}
-use Rattle.dpx_base.specs.Rate.{rate_clock_khz}
 use Rattle.dpx_grammar.specs.Gathered.{gathered}
-use Rattle.dpx_msa.specs.Reading.{attributes_of, reading, depth_coded}
+use Rattle.dpx_msa.specs.Reading.{attributes_of, read_attributes}
 use Rattle.dpx_inversion.specs.Source.{attribute_rows}
 use Rattle.dpx_grammar.proofs.Lists.{map_range_is}
-
-two_back : (n : ℕ) → n / 256 * 256 + n % 256 ≡ n
-two_back n = omega arith
-
-three_back : (n : ℕ) → n / 65536 * 65536 + n / 256 % 256 * 256 + n % 256 ≡ n
-three_back n = omega arith
-
-low : (p : Bool) (w : ℕ) → w < 32768 → with_polarity p w % 32768 ≡ w
-low true w h = omega arith
-low false w h = omega arith
-
-high : (p : Bool) (w : ℕ) → w < 32768 → nat_le 32768 (with_polarity p w) ≡ p
-high true w h = le-leb 32768 (w + 32768) (omega arith)
-high false w h = grind arith
-
-colour : (d : Depth) → misc0_of d / 2 % 4 == 0 ≡ true
-colour Six = refl
-colour Eight = refl
-colour Ten = refl
-colour Twelve = refl
-colour Sixteen = refl
-
-coded : (d : Depth) → depth_coded (misc0_of d / 32) ≡ Some d
-coded Six = refl
-coded Eight = refl
-coded Ten = refl
-coded Twelve = refl
-coded Sixteen = refl
-
-clock_not_zero : (r : Rate) → rate_clock_khz r == 0 ≡ false
-clock_not_zero Rbr = refl
-clock_not_zero Hbr = refl
-clock_not_zero Hbr2 = refl
-clock_not_zero Hbr3 = refl
-
-trip : (m : ModeFacts) (link : Link) → IsLegal m → reading (attributes_bytes m link) ≡ Ok (attributes_of m link)
-unfolding attributes_bytes
-trip m link h =
-    rw (
-      colour m.depth,
-      coded m.depth,
-      two_back m.width,
-      two_back m.height,
-      three_back (rate_clock_khz link.rate),
-      le-leb 16 m.width h.width.0,
-      le-leb m.width 8192 h.width.1,
-      le-leb 1 m.height h.height.0,
-      le-leb m.height 8192 h.height.1,
-      clock_not_zero link.rate,
-    )
-    (simp (
-      two_back,
-      three_back,
-      low m.hsp m.hsw (omega (arith, h.hsw.1)),
-      low m.vsp m.vsw (omega (arith, h.vsw.1)),
-      high m.hsp m.hsw (omega (arith, h.hsw.1)),
-      high m.vsp m.vsw (omega (arith, h.vsw.1)),
-    ))
+use Rattle.dpx_msa.proofs.ReadBack.{reads_back}
 
 -- ---- lanes
 
@@ -125,8 +61,8 @@ unfolding attributes_bytes
 length_bytes m link = refl
 
 pub read_back : (p : PlanFacts) → IsLegal p.mode
-    → reading (gathered (lanes_count p.link.lanes) (attribute_rows p)) ≡ Ok (attributes_of p.mode p.link)
+    → read_attributes (gathered (lanes_count p.link.lanes) (attribute_rows p)) ≡ Ok (attributes_of p.mode p.link)
 unfolding attribute_rows dealt
 read_back p h =
-    ap reading (gathered_back p.link.lanes (attributes_bytes p.mode p.link) (length_bytes p.mode p.link))
-    ∙ trip p.mode p.link h
+    ap read_attributes (gathered_back p.link.lanes (attributes_bytes p.mode p.link) (length_bytes p.mode p.link))
+    ∙ reads_back p.mode p.link h

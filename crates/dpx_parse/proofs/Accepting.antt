@@ -8,13 +8,13 @@ use Rattle.std.proofs.lemmas.List.{append-nil}
 use Rattle.dpx_base.specs.declared.sym.Sym.{Sym}
 use Rattle.dpx_base.specs.Lanes.{lanes_count}
 use Rattle.dpx_msa.specs.declared.attributes.Attributes.{Attributes}
-use Rattle.dpx_msa.specs.declared.bad.MsaBad.{MsaBad}
+use Rattle.dpx_msa.specs.declared.msa_bad.MsaBad.{MsaBad}
 use Rattle.dpx_grammar.specs.Accepted.{copies, HasOneId, valid_rows, is_ended, lines_of, FrameParts}
 use Rattle.dpx_grammar.specs.Accepted.{frame_parts, HasLength, line_length}
 use Rattle.dpx_grammar.specs.Accepted.{unfinished}
 use Rattle.dpx_grammar.specs.Accepted.{IsAccepted}
 use Rattle.dpx_grammar.specs.Gathered.{gathered}
-use Rattle.dpx_msa.specs.Reading.{reading}
+use Rattle.dpx_msa.specs.Reading.{read_attributes}
 use Rattle.dpx_grammar.specs.Parts.{Part, group, block, filler, attributes, secondary, begins, valid, stuffing, begun}
 use Rattle.dpx_grammar.proofs.Runs.{Mode, opening, headed, blanking, showing}
 use Rattle.dpx_parse.specs.Faults.{AllStand, msa_fault}
@@ -167,7 +167,7 @@ to lanes (Some a) false n v m (secondary rows ∷ ps) w e i h = let x =
     to lanes (Some a) false n v blanking ps w.1 refl i h in ((tt, x.0), x.1)
 to lanes o true n v m (attributes rows ∷ ps) w e i h = absurd (not_dark m (attributes rows) tt w.0 e)
 to lanes None false n v m (attributes rows ∷ ps) w e i h =
-    let k = ok_of (reading (gathered lanes rows)) h.0 in
+    let k = ok_of (read_attributes (gathered lanes rows)) h.0 in
     let g : AllIn lanes (Some k.0) false 0 v ps = subst (λ r. AllIn lanes (result_ok r) false 0 v ps) k.1 h.1 in
     let x = to lanes (Some k.0) false 0 v blanking ps w.1 refl (omega arith, λ z. absurd (differ z)) g in
     let q : 0 + 0 + length (lines_of ps) ≡ length (lines_of ps) = omega arith in
@@ -176,8 +176,8 @@ to lanes None false n v m (attributes rows ∷ ps) w e i h =
     differ : false ≡ true → ⊥
     differ e = cc
 to lanes (Some b) false n v m (attributes rows ∷ ps) w e i h =
-    let f = no_fault_of (nat_lt n b.height) (FrameShort n b.height) (msa_fault (reading (gathered lanes rows))) h.0 in
-    let k = ok_of (reading (gathered lanes rows)) f.1 in
+    let f = no_fault_of (nat_lt n b.height) (FrameShort n b.height) (msa_fault (read_attributes (gathered lanes rows))) h.0 in
+    let k = ok_of (read_attributes (gathered lanes rows)) f.1 in
     let g : AllIn lanes (Some k.0) false 0 v ps = subst (λ r. AllIn lanes (result_ok r) false 0 v ps) k.1 h.1 in
     let x = to lanes (Some k.0) false 0 v blanking ps w.1 refl (omega arith, λ z. absurd (differ z)) g in
     let q : 0 + 0 + length (lines_of ps) ≡ length (lines_of ps) = omega arith in

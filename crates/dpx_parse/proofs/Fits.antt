@@ -11,10 +11,13 @@ use Rattle.dpx_base.specs.Lanes.{lanes_count}
 use Rattle.dpx_base.specs.Mode.{depth_bits}
 use Rattle.dpx_base.specs.Timing.{ceil_div}
 use Rattle.dpx_msa.specs.declared.attributes.Attributes.{Attributes}
-use Rattle.dpx_msa.specs.declared.bad.MsaBad.{MsaBad}
-use Rattle.dpx_msa.specs.declared.bad.MsaBad.TheVariants.{Misc1, Width, Height, NvidZero, Colour}
+use Rattle.dpx_msa.specs.declared.msa_bad.MsaBad.{MsaBad}
+use Rattle.dpx_msa.specs.declared.msa_bad.MsaBad.TheVariants.{Colour, DepthCode, Misc1, Width, Height, NvidZero}
 use Rattle.dpx_grammar.specs.Accepted.{line_length}
-use Rattle.dpx_msa.specs.Reading.{reading, read_sizes, with_depth, attributes_at, depth_coded, two_at, three_at}
+use Rattle.dpx_base.specs.RawMode.{is_within}
+use Rattle.dpx_msa.specs.Reading.{read_attributes, first_refusal, attributes_in, answered}
+use Rattle.dpx_msa.specs.Reading.{colour, depth_code, misc0, misc1, width, height, nvid}
+use Rattle.dpx_msa.proofs.Sizes.{range_shown}
 use Rattle.dpx_base.specs.Timing.{symbols_of}
 
 abbrev pub AreSmall : Attributes → Type 0
@@ -26,40 +29,36 @@ ok_is x a e = cc
 no_ok : (b : MsaBad) (a : Attributes) → ◌≡◌ {A = Result Attributes MsaBad} (Err b) (Ok a) → ⊥
 no_ok b a e = cc
 
-below : (m n : ℕ) → nat_le m n ≡ true → m ≤ n
-below m n h = grind arith
-
-small_sizes : (b : List ℕ) (d : Depth) (a : Attributes) → read_sizes b d ≡ Ok a → AreSmall a
-small_sizes b d a e =
-    go (slice_index b 34 == 0) (nat_le 16 (two_at b 21)) (nat_le (two_at b 21) 8192) (nat_le 1 (two_at b 23))
-    (nat_le (two_at b 23) 8192) (three_at b 30 == 0)
-    refl refl e
+small_sizes : (b : List ℕ) → first_refusal b ≡ None → AreSmall (attributes_in b)
+unfolding first_refusal attributes_in
+small_sizes b e =
+    by_tests (colour (misc0 b) == 0) (nat_le (depth_code (misc0 b)) 4) (misc1 b == 0) (is_within 16 8192 (width b))
+    (is_within 1 8192 (height b)) (nvid b == 0) refl refl e
   where
-    go : (p w x h y z : Bool) → nat_le (two_at b 21) 8192 ≡ x → nat_le (two_at b 23) 8192 ≡ y
-        → (if not p then Err (Misc1 (slice_index b 34)) else (if not (w && x) then Err (Width (two_at b 21))
-        else (if not (h && y) then Err (Height (two_at b 23)) else
-        (if z then Err NvidZero else Ok (attributes_at b d))))) ≡ Ok a
-        → AreSmall a
-    go false w x h y z ex ey e = absurd (no_ok _ a e)
-    go true false x h y z ex ey e = absurd (no_ok _ a e)
-    go true true false h y z ex ey e = absurd (no_ok _ a e)
-    go true true true false y z ex ey e = absurd (no_ok _ a e)
-    go true true true true false z ex ey e = absurd (no_ok _ a e)
-    go true true true true true true ex ey e = absurd (no_ok _ a e)
-    go true true true true true false ex ey e =
-        subst AreSmall (ok_is (attributes_at b d) a e) (below (two_at b 21) 8192 ex, below (two_at b 23) 8192 ey)
+    by_tests : (rgb coded plain wide high none : Bool) → wide ≡ is_within 16 8192 (width b)
+        → high ≡ is_within 1 8192 (height b)
+        → (if not rgb then Some (Colour (misc0 b))
+        else if not coded then Some (DepthCode (misc0 b))
+        else if not plain then Some (Misc1 (misc1 b))
+        else if not wide then Some (Width (width b))
+        else if not high then Some (Height (height b))
+        else if none then Some NvidZero
+        else None) ≡ None
+        → AreSmall (attributes_in b)
+    by_tests false coded plain wide high none w h e = absurd (cc)
+    by_tests true false plain wide high none w h e = absurd (cc)
+    by_tests true true false wide high none w h e = absurd (cc)
+    by_tests true true true false high none w h e = absurd (cc)
+    by_tests true true true true false none w h e = absurd (cc)
+    by_tests true true true true true none w h e =
+        ((range_shown 16 8192 (width b) true w refl).1, (range_shown 1 8192 (height b) true h refl).1)
 
-small_depth : (b : List ℕ) (o : Option Depth) (a : Attributes) → with_depth b o ≡ Ok a → AreSmall a
-small_depth b None a e = absurd (no_ok _ a e)
-small_depth b (Some d) a e = small_sizes b d a e
-
-small : (b : List ℕ) (a : Attributes) → reading b ≡ Ok a → AreSmall a
-small b a e = go (slice_index b 33 / 2 % 4 == 0) e
+small : (b : List ℕ) (a : Attributes) → read_attributes b ≡ Ok a → AreSmall a
+small b a e = by_refusal (first_refusal b) refl e
   where
-    go : (p : Bool) → (if not p then Err (Colour (slice_index b 33)) else with_depth b
-        (depth_coded (slice_index b 33 / 32))) ≡ Ok a → AreSmall a
-    go false e = absurd (no_ok _ a e)
-    go true e = small_depth b (depth_coded (slice_index b 33 / 32)) a e
+    by_refusal : (o : Option MsaBad) → first_refusal b ≡ o → answered (attributes_in b) o ≡ Ok a → AreSmall a
+    by_refusal None f e = subst AreSmall (ok_is (attributes_in b) a e) (small_sizes b f)
+    by_refusal (Some why) f e = absurd (no_ok why a e)
 
 read_is : (r : Result Attributes MsaBad) (a : Attributes) → result_ok r ≡ Some a → r ≡ Ok a
 read_is (Ok x) a e = let s : x ≡ a = cc in ap (λ y. Ok y) s
@@ -86,6 +85,6 @@ length_small l a h = go l a.depth
     go Four Twelve = omega (arith, h)
     go Four Sixteen = omega (arith, h)
 
-pub small_read : (l : Lanes) (b : List ℕ) (a : Attributes) → result_ok (reading b) ≡ Some a
+pub small_read : (l : Lanes) (b : List ℕ) (a : Attributes) → result_ok (read_attributes b) ≡ Some a
     → (a.height ≤ 8192) × (line_length (lanes_count l) a ≤ 65536)
-small_read l b a e = let s = small b a (read_is (reading b) a e) in (s.1, length_small l a s.0)
+small_read l b a e = let s = small b a (read_is (read_attributes b) a e) in (s.1, length_small l a s.0)

@@ -12,7 +12,7 @@ use Rattle.dpx_msa.specs.declared.attributes.Attributes.{Attributes as MsaAttrib
 use Rattle.dpx_grammar.specs.Accepted.{ActivePart, valid_rows, is_ended, lines_of, FrameParts, frame_parts}
 use Rattle.dpx_grammar.specs.Accepted.{Frame, pixels_of, IsFrame, AreFrames}
 use Rattle.dpx_grammar.specs.Gathered.{gathered}
-use Rattle.dpx_msa.specs.Reading.{reading}
+use Rattle.dpx_msa.specs.Reading.{read_attributes}
 use Rattle.dpx_grammar.specs.Machine.{start}
 use Rattle.dpx_grammar.specs.Machine.{Reads}
 use Rattle.dpx_grammar.specs.Parts.{Part, group, block, filler, attributes, secondary, begins, valid, stuffing, begun}
@@ -35,7 +35,7 @@ events_in lanes o l (group r ∷ ps) = (if is_some o && l then LineEnd else Noth
 events_in lanes o l (block rows ∷ ps) = Nothing ∷ events_in lanes o l ps
 events_in lanes o l (filler x ∷ ps) = Nothing ∷ events_in lanes o l ps
 events_in lanes o l (attributes rows ∷ ps) =
-    attributes_event (reading (gathered lanes rows)) ∷ events_in lanes (result_ok (reading (gathered lanes rows))) l ps
+    attributes_event (read_attributes (gathered lanes rows)) ∷ events_in lanes (result_ok (read_attributes (gathered lanes rows))) l ps
 events_in lanes o l (secondary rows ∷ ps) = Nothing ∷ events_in lanes o l ps
 events_in lanes o l (begins ∷ ps) = (if is_some o then LineStart else Nothing) ∷ events_in lanes o true ps
 events_in lanes o l (valid x ∷ ps) = (if is_some o then Valid x else Nothing) ∷ events_in lanes o l ps
@@ -82,7 +82,7 @@ abbrev Fitting : Mode → Part → Type 0
 Fitting m x = Order m (x ∷ [])
 
 abbrev HasReading : ℕ → Part → Type 0
-HasReading lanes (attributes rows) = (a : MsaAttributes) × (reading (gathered lanes rows) ≡ Ok a)
+HasReading lanes (attributes rows) = (a : MsaAttributes) × (read_attributes (gathered lanes rows) ≡ Ok a)
 HasReading lanes _ = ⊤
 
 first_frame : (lanes : ℕ) (t : FrameParts) (ts : List FrameParts) (f : Frame) (fs : List Frame)

@@ -9,7 +9,7 @@ use Rattle.dpx_base.specs.declared.lanes.Lanes.TheVariants.{One, Two, Four}
 use Rattle.dpx_base.specs.Lanes.{lanes_count}
 use Rattle.dpx_grammar.specs.Accepted.{line_length}
 use Rattle.dpx_grammar.specs.Gathered.{gathered}
-use Rattle.dpx_msa.specs.Reading.{reading}
+use Rattle.dpx_msa.specs.Reading.{read_attributes}
 use Rattle.dpx_grammar.specs.Machine.{blank, numbers, active}
 use Rattle.dpx_grammar.specs.Parts.{Part, attributes, begins, valid}
 use Rattle.dpx_parse.specs.Bytes.{flat}
@@ -36,25 +36,25 @@ all_taken Four r h = omega (arith, h)
 
 read_is : (l : Lanes) (c : Counts) (old : List Part) (rows : List (List ℕ))
     → Knows (lanes_count l) c old (numbers rows 0)
-    → read_by (lanes_count l) c ≡ reading (gathered (lanes_count l) rows)
+    → read_by (lanes_count l) c ≡ read_attributes (gathered (lanes_count l) rows)
 read_is l c old rows k =
     let n : length rows ≡ 36 / lanes_count l = let z : length rows + 0 ≡ length rows = omega arith in sym z ∙ k.at.1 in
     let t : c.taken ≡ 36 = k.at.2 ∙ flat_length (lanes_count l) rows k.at.0 ∙ all_taken l (length rows) k.at.1 in
     let w : c.bytes ≡ flat rows = sym (take_all c.taken c.bytes (omega (arith, t, k.room))) ∙ k.at.3 in
-    ap reading (ap (dealt (lanes_count l)) w ∙ dealt_is l rows k.at.0 n)
+    ap read_attributes (ap (dealt (lanes_count l)) w ∙ dealt_is l rows k.at.0 n)
 
 pub end_kept : (l : Lanes) (c : Counts) (old : List Part) (rows : List (List ℕ)) (bytes : List ℕ)
     → Knows (lanes_count l) c old (numbers rows 0)
     → AllStand (lanes_count l) old → Kept (lanes_count l) c old (attributes rows ∷ old) blank AttributesEnd bytes
 end_kept l c old rows bytes k h =
-    let r : read_by (lanes_count l) c ≡ reading (gathered (lanes_count l) rows) = read_is l c old rows k in
+    let r : read_by (lanes_count l) c ≡ read_attributes (gathered (lanes_count l) rows) = read_is l c old rows k in
     record {
       fault =
           ap (λ o. end_fault o c.lines (read_by (lanes_count l) c)) k.attributes
           ∙ ap (λ x. end_fault (in_force (lanes_count l) old) c.lines x) r
-          ∙ in_each (in_force (lanes_count l) old) (λ o. end_fault o c.lines (reading (gathered (lanes_count l) rows)))
-          (λ o. end_fault o (lines old) (reading (gathered (lanes_count l) rows))) (λ e. refl)
-          (λ a e. ap (λ m. end_fault (Some a) m (reading (gathered (lanes_count l) rows))) (k.lines a e).0);
+          ∙ in_each (in_force (lanes_count l) old) (λ o. end_fault o c.lines (read_attributes (gathered (lanes_count l) rows)))
+          (λ o. end_fault o (lines old) (read_attributes (gathered (lanes_count l) rows))) (λ e. refl)
+          (λ a e. ap (λ m. end_fault (Some a) m (read_attributes (gathered (lanes_count l) rows))) (k.lines a e).0);
       event = λ n. ap attributes_event r ∙ sym (longer_event (lanes_count l) old (attributes rows));
       stand = λ n. (n, h);
       knows = λ n. record {

@@ -10,7 +10,7 @@ use Rattle.dpx_msa.specs.declared.attributes.Attributes.{Attributes}
 use Rattle.dpx_grammar.specs.Accepted.{copies, AreProgressive, FrameParts}
 use Rattle.dpx_grammar.specs.Accepted.{Frame, HasLength, line_length, pixels_of, IsFrame, AreFrames}
 use Rattle.dpx_grammar.specs.Gathered.{gathered}
-use Rattle.dpx_msa.specs.Reading.{reading}
+use Rattle.dpx_msa.specs.Reading.{read_attributes}
 use Rattle.dpx_grammar.specs.Parts.{Part, group, block, filler, attributes, secondary, begins, valid, stuffing, begun}
 use Rattle.dpx_grammar.specs.Parts.{IsCut}
 use Rattle.dpx_grammar.proofs.Cuts.{is_chain, chain_cut}
@@ -28,8 +28,8 @@ AllIn lanes o l n v (group r ∷ ps) = (head_fault lanes o l v ≡ None) × AllI
 AllIn lanes o l n v (block rows ∷ ps) = (id_fault (copies rows) ≡ None) × AllIn lanes o l n v ps
 AllIn lanes o l n v (filler row ∷ ps) = AllIn lanes o l n v ps
 AllIn lanes o l n v (attributes rows ∷ ps) =
-    (end_fault o n (reading (gathered lanes rows)) ≡ None)
-    × AllIn lanes (result_ok (reading (gathered lanes rows))) l 0 v ps
+    (end_fault o n (read_attributes (gathered lanes rows)) ≡ None)
+    × AllIn lanes (result_ok (read_attributes (gathered lanes rows))) l 0 v ps
 AllIn lanes o l n v (secondary rows ∷ ps) = AllIn lanes o l n v ps
 AllIn lanes o l n v (begins ∷ ps) = (begin_fault o n ≡ None) × AllIn lanes o true n 0 ps
 AllIn lanes o l n v (valid row ∷ ps) = (valid_fault lanes o v ≡ None) × AllIn lanes o l n (v + 1) ps
@@ -213,11 +213,11 @@ Ends (t ∷ ts) n h = n ≡ h
 abbrev pub AreGood : ℕ → List FrameParts → Type 0
 AreGood lanes [] = ⊤
 AreGood lanes (t ∷ ts) =
-    (a : Attributes) × (reading (gathered lanes t.rows) ≡ Ok a)
+    (a : Attributes) × (read_attributes (gathered lanes t.rows) ≡ Ok a)
     × AllByRecursion (HasLength (line_length lanes a)) t.lines
     × Ends ts (length t.lines) a.height × AreGood lanes ts
 
-frame_from : (lanes : ℕ) (t : FrameParts) (a : Attributes) → reading (gathered lanes t.rows) ≡ Ok a
+frame_from : (lanes : ℕ) (t : FrameParts) (a : Attributes) → read_attributes (gathered lanes t.rows) ≡ Ok a
     → AllByRecursion (HasLength (line_length lanes a)) t.lines
     → IsFrame lanes t (record { attributes = a; lines = pixels_of lanes a t.lines })
 frame_from lanes t a r h = record { read = r; lengths = h; lines = refl }

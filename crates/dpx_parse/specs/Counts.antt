@@ -3,8 +3,8 @@ use Rattle.std.specs.Prelude.{ℕ, ◌+◌, ◌-◌, ◌^◌, ◌&&◌, true, fa
 use Rattle.std.specs.Prelude.{replicate, slice_index, Option, Some, None, Result, unwrap_or, is_some}
 use Rattle.std.specs.Result.{result_ok}
 use Rattle.dpx_msa.specs.declared.attributes.Attributes.{Attributes as MsaAttributes}
-use Rattle.dpx_msa.specs.declared.bad.MsaBad.{MsaBad}
-use Rattle.dpx_msa.specs.Reading.{reading}
+use Rattle.dpx_msa.specs.declared.msa_bad.MsaBad.{MsaBad}
+use Rattle.dpx_msa.specs.Reading.{read_attributes}
 use Rattle.dpx_parse.specs.Columns.{dealt}
 use Rattle.dpx_parse.specs.Bytes.{put}
 use Rattle.dpx_parse.specs.Events.{attributes_event}
@@ -43,7 +43,7 @@ with_row c row = if nat_le (c.taken + length row) 36 then record c {
 } else c
 
 abbrev pub read_by : ℕ → Counts → Result MsaAttributes MsaBad
-read_by lanes c = reading (dealt lanes c.bytes)
+read_by lanes c = read_attributes (dealt lanes c.bytes)
 
 abbrev pub kept_ids : Option ℕ → List ℕ → List ℕ
 kept_ids None row = row

@@ -4,10 +4,10 @@ use Rattle.std.specs.Prelude.{ℕ, ◌≡◌, ◌+◌, ◌/◌, ◌%◌, ◌==�
 use Rattle.std.specs.Prelude.{◌∷◌, Option, Some, None, Result, Ok, Err}
 use Rattle.std.specs.Result.{result_ok}
 use Rattle.dpx_msa.specs.declared.attributes.Attributes.{Attributes}
-use Rattle.dpx_msa.specs.declared.bad.MsaBad.{MsaBad}
+use Rattle.dpx_msa.specs.declared.msa_bad.MsaBad.{MsaBad}
 use Rattle.dpx_grammar.specs.Accepted.{copies, line_length}
 use Rattle.dpx_grammar.specs.Gathered.{gathered}
-use Rattle.dpx_msa.specs.Reading.{reading}
+use Rattle.dpx_msa.specs.Reading.{read_attributes}
 use Rattle.dpx_grammar.specs.Parts.{Part, group, block, attributes, begins, valid}
 use Rattle.dpx_parse.specs.declared.bad.ParseWhy.{ParseWhy}
 use Rattle.dpx_parse.specs.declared.bad.ParseWhy.TheVariants.{Interlaced, VbIdDiffers, Msa, LineLong, LineShort}
@@ -16,7 +16,7 @@ use Rattle.dpx_parse.specs.declared.bad.ParseWhy.TheVariants.{FrameShort, FrameL
 -- the attributes in force
 abbrev pub in_force : ℕ → List Part → Option Attributes
 in_force lanes [] = None
-in_force lanes (attributes rows ∷ before) = result_ok (reading (gathered lanes rows))
+in_force lanes (attributes rows ∷ before) = result_ok (read_attributes (gathered lanes rows))
 in_force lanes (_ ∷ before) = in_force lanes before
 
 -- an active part has begun since the last group
@@ -80,7 +80,7 @@ head_fault lanes (Some a) live got =
 abbrev pub fault : ℕ → List Part → Part → Option ParseWhy
 fault lanes before (group reset) = head_fault lanes (in_force lanes before) (is_live before) (valids before)
 fault lanes before (block rows) = id_fault (copies rows)
-fault lanes before (attributes rows) = end_fault (in_force lanes before) (lines before) (reading (gathered lanes rows))
+fault lanes before (attributes rows) = end_fault (in_force lanes before) (lines before) (read_attributes (gathered lanes rows))
 fault lanes before begins = begin_fault (in_force lanes before) (lines before)
 fault lanes before (valid row) = valid_fault lanes (in_force lanes before) (valids before)
 fault lanes before _ = None
