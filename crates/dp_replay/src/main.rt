@@ -5,7 +5,7 @@
 #![tactic(auto)]
 
 ghost use Rattle.std.specs.Prelude.{IfOk};
-ghost use Rattle.dpx_cli.specs.Replay.{IsStatus};
+ghost use Rattle.dpx_cli.specs.Status.{IsExitStatus};
 
 mod file_sink;
 mod file_source;
@@ -36,7 +36,7 @@ fn main(rt: HostRuntime) -> ExitCode {
 
 /// Opens the files that the words name, and gives the command's status.
 fn run<R: Env + Files<File = File> + AllocGlobal>(rt: &R, out: &mut FileSink) -> Result<u8, Memory>
-    ensures { IfOk result IsStatus }
+    ensures { IfOk result IsExitStatus }
 {
     let words = words(rt)?;
     let mut aux = PlanPort::new(rt.alloc())?;

@@ -43,7 +43,7 @@ then_decided {next = next} f d r s xs ys later after a b e =
     let ends = next_same next d a.middle r s a.back b.back later after a.goes_on b' rest in
     (a.joined ∙ (ap (λ zs. zs ++ a.back) same.0 ∙ (ap (λ zs. b.front ++ zs) ends.0 ∙ sym b.joined)), ends.1)
 
-answers_in-asked_with : (request : Request) (answers : List Answer) → answers_in (asked_with request answers) ≡ answers
+pub answers_in-asked_with : (request : Request) (answers : List Answer) → answers_in (asked_with request answers) ≡ answers
 answers_in-asked_with request [] = refl
 answers_in-asked_with request (x ∷ xs) = ap (λ ys. x ∷ ys) (answers_in-asked_with request xs)
 

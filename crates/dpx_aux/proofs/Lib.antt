@@ -1,3 +1,4 @@
 pub mod Asks
 pub mod Decided
 pub mod Parts
+pub mod Suffices

@@ -1,6 +1,6 @@
 -- The parts that an AUX history is made of: this project's own. A part relates what a call gives to the entries that
 -- it adds to the history. `do` puts parts one behind the other; the first error is the result, and nothing follows it.
-use Rattle.std.specs.Prelude.{◌≡◌, ℕ, Bool, true, false, List, [], ◌∷◌, ◌++◌, Result, Ok, Err, MatchResult, ⊤}
+use Rattle.std.specs.Prelude.{◌≡◌, ◌≤◌, ℕ, length, Bool, true, false, List, [], ◌∷◌, ◌++◌, Result, Ok, Err, MatchResult, ⊤}
 use Rattle.dpx_base.specs.declared.aux_port.Answer.{Answer}
 use Rattle.dpx_base.specs.declared.aux_port.Entry.{Entry}
 use Rattle.dpx_base.specs.declared.aux_port.Entry.TheVariants.{Waited}
@@ -49,6 +49,23 @@ abbrev pub IsDecided : {R : Type 0} → (R → List Entry → Type 0) → Type 0
 IsDecided {R} part =
     (r s : R) (xs ys : List Entry) (later after : List Answer) → part r xs → part s ys
     → answers_in xs ++ later ≡ answers_in ys ++ after → (xs ≡ ys) × (r ≡ s)
+
+-- a front of these answers is the answers of a history of the part, at most so many
+pub record HasFront {R : Type 0} (most : ℕ) (part : R → List Entry → Type 0) (answers : List Answer) : Type 0 where
+  pub given : R
+  pub history : List Entry
+  pub rest : List Answer
+  pub done : part given history
+  pub begins : answers ≡ answers_in history ++ rest
+  pub few : length (answers_in history) ≤ most
+
+-- So many answers suffice, whatever they are: some front of them is the answers of a history.
+abbrev pub Suffices : {R : Type 0} → ℕ → (R → List Entry → Type 0) → Type 0
+Suffices most part = (answers : List Answer) → most ≤ length answers → HasFront most part answers
+
+-- whatever this part gives and whatever its history, the two are related so
+abbrev pub AlwaysIs : {R : Type 0} → (R → List Entry → Type 0) → (R → List Entry → Type 0) → Type 0
+AlwaysIs {R} part Is = (given : R) (history : List Entry) → part given history → Is given history
 
 -- whatever this part gives, its history has this property
 abbrev pub HistoriesAre : {R : Type 0} → (R → List Entry → Type 0) → (List Entry → Type 0) → Type 0

@@ -1,3 +1,4 @@
+pub mod Asked
 pub mod Conversation
 pub mod Reply
 pub mod Request

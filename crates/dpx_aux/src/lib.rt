@@ -13,7 +13,7 @@ mod reply;
 mod request;
 mod transaction;
 
-pub use laws::one_transaction;
+pub use laws::{one_transaction, some_transaction};
 pub use reply::{Reply, read_reply};
 pub use request::{AuxBad, Data16, Request, encode_request, read_request};
 pub use transaction::{AuxEnd, LastAnswer, transact};

@@ -145,5 +145,6 @@ pixels_step s clock =
 pub pixels_first : (s : Shown) → pixels_before s 0 ≡ 0
 unfolding pixels_before ticks_before
 pixels_first s =
-    rw (floor_is (0 * s.mode.clock_khz) (rate_clock_khz s.link.rate) 0 (omega arith) (omega (arith, clock_from s.link.rate)))
+    rw (floor_is (0 * s.mode.clock_khz) (rate_clock_khz s.link.rate) 0 (omega arith)
+    (omega (arith, clock_from s.link.rate)))
     (pixels_none s.mode s.frames 0)

@@ -15,7 +15,8 @@ use Rattle.dpx_base.specs.Plan.{PlanFacts, timing, clocks}
 use Rattle.dpx_base.specs.Sets.{black}
 use Rattle.dpx_base.specs.Slots.{slot_at, start_row, symbol_row, stuffing_row, group_row, block_row, attributes_row}
 use Rattle.dpx_base.specs.Slots.{symbol_at, unit_symbols}
-use Rattle.dpx_base.specs.Timing.{n, m, symbols, delay, line_end, bound, start, due, first_tick, place, carried, unit_of}
+use Rattle.dpx_base.specs.Timing.{n, m, symbols, delay, line_end, bound, start, due, first_tick, place, carried}
+use Rattle.dpx_base.specs.Timing.{unit_of}
 use Rattle.dpx_base.specs.Timing.{last_unit, floor_div, ceil_div}
 
 -- ---- packing

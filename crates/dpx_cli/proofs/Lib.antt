@@ -1,5 +1,6 @@
 pub mod Jobs
 pub mod LineSteps
 pub mod Modelled
-pub mod Rows
+pub mod Printings
+pub mod Trainings
 pub mod Transfers

@@ -1,6 +1,11 @@
 pub mod Digits
+pub mod Jobs
 pub mod Lines
-pub mod Outcome
-pub mod Replay
+pub mod Printing
+pub mod Status
+pub mod Step
+pub mod Stop
+pub mod Train
+pub mod Training
 pub mod Transfer
 pub mod Words

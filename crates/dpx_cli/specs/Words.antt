@@ -24,11 +24,15 @@ command_of (word ∷ job ∷ more ∷ words) = None
 abbrev pub command_in : List (String Global) → Option Command
 command_in words = command_of (map string_bytes words)
 
+-- the command is `train`
+abbrev pub IsTrain : Command → Type 0
+IsTrain (Train job) = ⊤
+
 -- words are refused where they have no reading, or where there is no memory
-abbrev pub RefusedAs : Option Command → WordsEnd → Type 0
-RefusedAs read Usage = read ≡ None
-RefusedAs read Memory = ⊤
+abbrev pub WordsRefused : Option Command → WordsEnd → Type 0
+WordsRefused read Usage = read ≡ None
+WordsRefused read Memory = ⊤
 
 -- the words are read as they are, unless there is no memory for it
-abbrev pub ReadsAs : Option Command → Result Command WordsEnd → Type 0
-ReadsAs read result = MatchResult result (λ command. read ≡ Some command) (λ end. RefusedAs read end)
+abbrev pub WordsRead : Option Command → Result Command WordsEnd → Type 0
+WordsRead read result = MatchResult result (λ command. read ≡ Some command) (λ end. WordsRefused read end)

@@ -1,21 +1,18 @@
-ghost use Rattle.std.specs.Prelude.{◌≡◌, ◌⊎◌, None, IsSome, IfSome, IsSomeAnd, map, string_bytes};
-ghost use Rattle.std.specs.Io.KnownBytes.{Appends};
+ghost use Rattle.std.specs.Prelude.{◌≡◌, ◌≢◌, ◌+◌, ◌≤◌, None, IsSomeAnd};
 ghost use Rattle.dpx_base.specs.Faults.{Rose};
-ghost use Rattle.dpx_dpcd.specs.Model.{IsPlan};
-ghost use Rattle.dpx_cli.specs.Outcome.{usage_line};
-ghost use Rattle.dpx_cli.specs.Replay.{Caused, Trains, TrainedWith, ReadsJob, Reported, Tells, Does, IsClean, Exactly};
-ghost use Rattle.dpx_cli.specs.Replay.{Ended, Refused, Loaded, SaysEnded, IsStatus, IsJob, IsNoJob};
-ghost use Rattle.dpx_cli.specs.Words.{command_in};
+ghost use Rattle.dpx_cli.specs.declared.stop.Stop.{Stop};
+ghost use Rattle.dpx_cli.specs.Printing.{StopsAtOnce};
+ghost use Rattle.dpx_cli.specs.Status.{IsExitStatus, IsClean, Means};
+ghost use Rattle.dpx_cli.specs.Step.{◌⇒◌};
+ghost use Rattle.dpx_cli.specs.Train.{SaysTrained, TrainDoes};
+ghost use Rattle.dpx_cli.specs.Words.{command_in, IsTrain};
 
-use crate::outcome::{MEMORY, Outcome, no_job, push_outcome, status};
-use crate::report::Report;
-use crate::transfer::{ReadEnd, read_whole, write_whole};
+use crate::printing::print_stop;
+use crate::stop::Stop;
+use crate::train::train;
 use crate::words::{Command, WordsEnd, read_words};
-use dpx_base::{Link, Sink, Source};
-use dpx_complete::training_is_complete;
-use dpx_dpcd::{LoadPort, SinkPlan};
-use dpx_files::{Job, Need, read_job};
-use dpx_link::{TrainEnd, train};
+use dpx_base::{Sink, Source};
+use dpx_dpcd::LoadPort;
 use std::alloc::Global;
 
 /// Does what the words of the command line ask for: `words` are those without the program's name. The job comes from
@@ -31,108 +28,34 @@ pub fn replay<S: Source, P: LoadPort, O: Sink>(
     aux: &mut P,
     out: &mut O,
 ) -> u8
-    ensures statuses { IsStatus result }
+    // Whatever is answered: training asks at most 3,104 AUX requests, over all of the call, and trained is said only
+    // where the last status shows every lane in use done.
+    ensures bounded { (P.state aux.new).asked_in_all ≤ (P.state aux.old).asked_in_all + 3104 }
+    ensures trained { IsSomeAnd (command_in words.now) IsTrain → result ≡ 0
+        → SaysTrained (P.state aux.new) (O.seen out.old ⇒ O.seen out.new) }
 
-    // Words and jobs that have no reading.
-    ensures usage { Exactly 2 (command_in words.now ≡ None) result }
-    ensures usage_changes_only_out { result ≡ 2 → (src.new ≡ src.old) × (aux.new ≡ aux.old) }
-    ensures usage_is_printed { result ≡ 2 → Appends (O.seen out.old).taken (O.seen out.new).taken usage_line }
-    ensures job_refused { IsSome (command_in words.now)
-        → IfSome (S.seen src.old).left (λ bytes. Exactly 3 (IsNoJob bytes) result) }
-    ensures refused_says_why { result ≡ 3
-        → Refused (S.seen src.old).left (S.seen src.new).left (O.seen out.old).taken (O.seen out.new).taken }
-    ensures refused_keeps_sink { result ≡ 3 → aux.new ≡ aux.old }
-
-    // Training: what 0 and 4 say. Whatever the status, the sink is as it was or was trained, and a job that has a
-    // reading was trained, but for faults and want of memory.
-    ensures ended { SaysEnded result
-        → Ended (S.seen src.old).left (S.seen src.new).left (P.state aux.new) (O.seen out.old).taken (O.seen out.new).taken result }
-    ensures sink_kept_or_trained { (aux.new ≡ aux.old)
-        ⊎ Loaded (S.seen src.old).left (S.seen src.new).left (P.state aux.new) }
-    ensures trained_wherever_asked { IsSome (command_in words.now) → IsSomeAnd (S.seen src.old).left IsJob
-        → IsClean result
-        → Ended (S.seen src.old).left (S.seen src.new).left (P.state aux.new) (O.seen out.old).taken (O.seen out.new).taken result }
-
-    // Faults come only where their object counted one.
+    // There is no other status. A fault comes only where its object counted one, and none that was counted is passed
+    // over.
+    ensures statuses { IsExitStatus result }
     ensures read_fault { result ≡ 7 → Rose (S.seen src.old).faults (S.seen src.new).faults }
     ensures write_fault { result ≡ 8 → Rose (O.seen out.old).faults (O.seen out.new).faults }
+    ensures reads_are_calm { IsClean result → (S.seen src.new).faults ≡ (S.seen src.old).faults }
+    ensures writes_are_calm { result ≢ 8 → (O.seen out.new).faults ≡ (O.seen out.old).faults }
 
-    // All of it: the outcome with its cause, and what was printed, also where a write failed or memory was short.
-    ensures does { Does (map string_bytes words.now)
-        (S.seen src.old).left (S.seen src.new).left (Rose (S.seen src.old).faults (S.seen src.new).faults) (src.new ≡ src.old)
-        (aux.new ≡ aux.old) (P.state aux.new)
-        (Rose (O.seen out.old).faults (O.seen out.new).faults) (O.seen out.old).taken (O.seen out.new).taken result }
-{
-    let outcome = run(alloc, words, src, aux);
-    report(alloc, out, &outcome)
-}
+    // Words that have no reading: the usage line is printed, or that there is no memory for it, and nothing else is
+    // touched.
+    ensures usage { Means 2 (command_in words.now ≡ None) result }
+    ensures usage_is_printed { command_in words.now ≡ None
+        → StopsAtOnce (O.seen out.old ⇒ O.seen out.new) Stop.Usage result }
+    ensures usage_changes_only_out { command_in words.now ≡ None → (src.new ≡ src.old) × (aux.new ≡ aux.old) }
 
-/// Does what the words ask for.
-fn run<S: Source, P: LoadPort>(alloc: Global, words: &[String], src: &mut S, aux: &mut P) -> Outcome
-    ensures { Caused (map string_bytes words.now)
-        (S.seen src.old).left (S.seen src.new).left (Rose (S.seen src.old).faults (S.seen src.new).faults) (src.new ≡ src.old)
-        (aux.new ≡ aux.old) (P.state aux.new) result }
+    // What each command does, status by status.
+    ensures train { IsSomeAnd (command_in words.now) IsTrain → TrainDoes (S.seen src.old ⇒ S.seen src.new)
+        (P.state aux.old ⇒ P.state aux.new) (aux.new ≡ aux.old) (O.seen out.old ⇒ O.seen out.new) result }
 {
     match read_words(alloc, words) {
-        Ok(Command::Train { .. }) => train_command(alloc, src, aux),
-        Err(WordsEnd::Usage) => Outcome::Usage,
-        Err(WordsEnd::Memory) => Outcome::NoMemory,
-    }
-}
-
-fn train_command<S: Source, P: LoadPort>(alloc: Global, src: &mut S, aux: &mut P) -> Outcome
-    ensures { Trains (S.seen src.old).left (S.seen src.new).left (Rose (S.seen src.old).faults (S.seen src.new).faults)
-        (aux.new ≡ aux.old) (P.state aux.new) result }
-{
-    match job_in(alloc, src) {
-        Ok(Job::Train { link, sink }) => Outcome::Ended(train_with(aux, link, sink)),
-        Err(outcome) => outcome,
-    }
-}
-
-/// Loads the sink, and trains the link against it.
-fn train_with<P: LoadPort>(aux: &mut P, link: Link, plan: SinkPlan) -> TrainEnd
-    requires { IsPlan plan }
-    ensures { TrainedWith link plan (P.state aux.new) result }
-{
-    aux.load(plan);
-    training_is_complete();
-    train(aux, link)
-}
-
-/// Reads the job from the source.
-fn job_in<S: Source>(alloc: Global, src: &mut S) -> Result<Job, Outcome>
-    ensures { ReadsJob (S.seen src.old).left (S.seen src.new).left (Rose (S.seen src.old).faults (S.seen src.new).faults) result }
-{
-    let bytes = match read_whole(alloc, src) {
-        Ok(bytes) => bytes,
-        Err(ReadEnd::Fault) => return Err(Outcome::ReadFault),
-        Err(ReadEnd::Memory) => return Err(Outcome::NoMemory),
-    };
-    match read_job(alloc, bytes.as_slice(), Need::Train) {
-        Ok(job) => Ok(job),
-        Err(why) => Err(no_job(why)),
-    }
-}
-
-/// Prints what is said of an outcome, and gives its status.
-fn report<O: Sink>(alloc: Global, out: &mut O, outcome: &Outcome) -> u8
-    ensures { Reported (Rose (O.seen out.old).faults (O.seen out.new).faults) (O.seen out.old).taken (O.seen out.new).taken result
-        outcome.now }
-{
-    let mut text = Report::new(alloc);
-    match push_outcome(&mut text, outcome) {
-        Ok(()) => tell(out, text.as_bytes(), status(outcome)),
-        Err(_) => tell(out, MEMORY.as_bytes(), 10),
-    }
-}
-
-fn tell<O: Sink>(out: &mut O, text: &[u8], status: u8) -> u8
-    ensures { Tells (Rose (O.seen out.old).faults (O.seen out.new).faults) (O.seen out.old).taken (O.seen out.new).taken result
-        text.now status }
-{
-    match write_whole(out, text) {
-        Ok(()) => status,
-        Err(_) => 8,
+        Ok(Command::Train { .. }) => train(alloc, src, aux, out),
+        Err(WordsEnd::Usage) => print_stop(alloc, out, &Stop::Usage),
+        Err(WordsEnd::Memory) => print_stop(alloc, out, &Stop::NoMemory),
     }
 }

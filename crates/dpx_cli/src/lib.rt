@@ -1,13 +1,22 @@
 //! The commands of dp_replay: their words, their reports, and the top call.
 //!
-//! * `report`: the text of a report as it grows
-//! * `lines`: the lines of a report
+//! * `commands`: the top call, which finds the command in the words
+//! * `train`: the command of that name
+//! * `words`: the words of the command line
+//! * `job`, `training`: steps that commands share
+//! * `transfer`: whole reads, whole writes
+//! * `stop`, `printing`: why a command stops, what is printed and with which status it ends
+//! * `report`, `lines`: the text of a report as it grows, and its lines
 #![tactic(auto)]
 
 mod commands;
+mod job;
 mod lines;
-mod outcome;
+mod printing;
 mod report;
+mod stop;
+mod train;
+mod training;
 mod transfer;
 mod words;
 

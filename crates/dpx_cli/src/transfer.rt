@@ -1,10 +1,11 @@
-ghost use Rattle.std.specs.Prelude.{◌≡◌, IfOk, OnOk, OnErr};
-ghost use Rattle.std.specs.Io.KnownBytes.{Appends};
-ghost use Rattle.dpx_base.specs.Faults.{Rose, HasCause};
+ghost use Rattle.std.specs.Prelude.{◌≡◌, ◌≢◌, IfOk, OnOk, OnErr};
+ghost use Rattle.dpx_base.specs.Faults.{Rose};
 ghost use Rattle.dpx_cli.specs.declared.transfer.ReadEnd.{ReadEnd};
-ghost use Rattle.dpx_cli.specs.Transfer.{ReadsWhole, AppendsFront};
+ghost use Rattle.dpx_cli.specs.Step.{◌⇒◌};
+ghost use Rattle.dpx_cli.specs.Transfer.{ReadsWhole, Prints, PrintsFront};
 
 use dpx_base::{Failed, Sink, Source};
+use dpx_files::LONGEST_JOB;
 use std::alloc::Global;
 
 /// Why a job was not read.
@@ -15,13 +16,14 @@ pub(crate) enum ReadEnd {
 }
 
 /// One byte more than a job has at most.
-const READ_AT_MOST: usize = 1_048_577;
+const READ_AT_MOST: usize = LONGEST_JOB + 1;
 
 const PIECE: usize = 4096;
 
 /// Reads to the end, or so far that the bytes are too long for a job; then no further read is made.
 pub(crate) fn read_whole<S: Source>(alloc: Global, src: &mut S) -> Result<Vec<u8>, ReadEnd>
     ensures whole { IfOk result (λ bytes. ReadsWhole (S.seen src.old).left (S.seen src.new).left bytes.items) }
+    ensures calm { result ≢ Err ReadEnd.Fault → (S.seen src.new).faults ≡ (S.seen src.old).faults }
     ensures fault { result ≡ Err ReadEnd.Fault → Rose (S.seen src.old).faults (S.seen src.new).faults }
 {
     let mut bytes = Vec::new(alloc);
@@ -43,9 +45,8 @@ pub(crate) fn read_whole<S: Source>(alloc: Global, src: &mut S) -> Result<Vec<u8
 
 /// Writes all of the bytes, or as many as are taken before a write fails.
 pub(crate) fn write_whole<O: Sink>(out: &mut O, bytes: &[u8]) -> Result<(), Failed>
-    ensures whole { OnOk result (Appends (O.seen out.old).taken (O.seen out.new).taken bytes.now) }
-    ensures front { OnErr result (AppendsFront (O.seen out.old).taken (O.seen out.new).taken bytes.now) }
-    ensures cause { HasCause (O.seen out.old).faults (O.seen out.new).faults result }
+    ensures whole { OnOk result (Prints (O.seen out.old ⇒ O.seen out.new) bytes.now) }
+    ensures front { OnErr result (PrintsFront (O.seen out.old ⇒ O.seen out.new) bytes.now) }
 {
     let mut start = 0;
     while start < bytes.len() {

@@ -1,5 +1,5 @@
 ghost use Rattle.std.specs.Prelude.{◌≡◌, IfOk};
-ghost use Rattle.dpx_cli.specs.Words.{command_in, ReadsAs, is_name};
+ghost use Rattle.dpx_cli.specs.Words.{command_in, WordsRead, is_name};
 
 use std::alloc::{AllocError, Global};
 use std::marker::Model;
@@ -53,7 +53,7 @@ pub enum WordsEnd {
 
 /// Reads the words of the command line, without the program's name.
 pub fn read_words(alloc: Global, words: &[String]) -> Result<Command, WordsEnd>
-    ensures { ReadsAs (command_in words.now) result }
+    ensures { WordsRead (command_in words.now) result }
 {
     let [word, job] = words else {
         return Err(WordsEnd::Usage);

@@ -14,18 +14,9 @@ use Rattle.dpx_dpcd.specs.Status.{status_level, register_byte}
 use Rattle.dpx_phase.specs.Drives.{no_drive, used}
 use Rattle.dpx_link.specs.Attempt.{lanes_byte}
 use Rattle.dpx_complete.specs.Complete.{IsCell}
+use Rattle.dpx_complete.specs.Drive.{IsRightByte, EveryLane, IsAskedFor}
 use Rattle.dpx_complete.specs.Fall.{all_recover, all_equalise}
 use Rattle.dpx_complete.proofs.Bits.{IsSet, six_of, both, four, low, high}
-
--- a register drives a lane as its cell asks for
-abbrev pub IsRightByte : CellFacts → ℕ → Type 0
-IsRightByte cell byte = (byte % 4 ≡ cell.swing) × (byte / 8 % 4 ≡ min cell.emph (3 - cell.swing))
-
--- each lane in use is such
-abbrev pub EveryLane : Lanes → (ℕ → Type 0) → Type 0
-EveryLane One Is = Is 0
-EveryLane Two Is = Is 0 × Is 1
-EveryLane Four Is = Is 0 × Is 1 × Is 2 × Is 3
 
 -- four bytes, which drive each lane in use as its cell asks for
 pub record IsRight (channel : List CellFacts) (link : Link) (drive : List ℕ) : Type 0 where
@@ -35,6 +26,10 @@ pub record IsRight (channel : List CellFacts) (link : Link) (drive : List ℕ) :
   pub d : ℕ
   pub is : drive ≡ a ∷ b ∷ c ∷ d ∷ []
   pub right : EveryLane link.lanes (λ lane. IsRightByte (channel_cell channel link.rate lane) (slice_index (a ∷ b ∷ c ∷ d ∷ []) lane))
+
+pub right_asked_for : (channel : List CellFacts) (link : Link) (drive : List ℕ) → IsRight channel link drive
+    → IsAskedFor channel link drive
+right_asked_for channel link drive r = subst (IsAskedFor channel link) (sym r.is) r.right
 
 -- the registers drive each lane in use as its cell asks for
 abbrev pub IsDriven : List CellFacts → Link → (ℕ → ℕ) → Type 0

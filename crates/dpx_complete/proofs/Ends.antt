@@ -1,5 +1,5 @@
 -- How the phases of training end where the status is a modelled sink's.
-use Rattle.std.proofs.Common.{◌≡◌, ℕ, ◌+◌, ◌-◌, ◌%◌, Bool, true, false, ◌==◌, if◌then◌else◌, List, [], ◌∷◌, ◌++◌, length, refl, sym, ap, ◌∙◌, Option, Some}
+use Rattle.std.proofs.Common.{◌≡◌, ℕ, ◌+◌, ◌-◌, ◌%◌, Bool, true, false, ◌==◌, if◌then◌else◌, List, [], ◌∷◌, ◌++◌, length, refl, sym, ap, ◌∙◌, Option, Some, subst, arith}
 use Rattle.dpx_base.specs.declared.lanes.Lanes.{Lanes}
 use Rattle.dpx_base.specs.declared.lanes.Lanes.TheVariants.{One, Two, Four}
 use Rattle.dpx_dpcd.specs.declared.caps.Caps.{Caps}
@@ -15,7 +15,7 @@ use Rattle.dpx_phase.specs.declared.phase_end.PhaseEnd.{PhaseEnd}
 use Rattle.dpx_phase.specs.declared.phase_end.PhaseEnd.TheVariants.{Done, Failed}
 use Rattle.dpx_phase.specs.Drives.{no_drive, drive_after, at_full_swing}
 use Rattle.dpx_phase.specs.Endings.{first_of_four, first_of_three, recovery_end, recovery_ends, equalisation_end, equalisation_ends, five_alike}
-use Rattle.dpx_phase.proofs.Statuses.{status_at_end}
+use Rattle.dpx_phase.proofs.Statuses.{status_at_end, drive_after-append}
 
 -- failed, done
 abbrev pub IsFailed : PhaseEnd → Type 0
@@ -55,29 +55,42 @@ pub recovery_first : (lanes : Lanes) (status : Status6) (end : PhaseEnd) → rec
 unfolding recovery_ends
 recovery_first lanes status end e = first_read lanes status end (cr_done lanes status.bytes) (sym e)
 
--- done, or failed
-abbrev pub IsDone : PhaseEnd → Type 0
-IsDone end = (drive : Drive) × (last : Status6) × (end ≡ Done drive last)
+-- done with such a drive, or failed
+abbrev pub IsDone : (List ℕ → Type 0) → PhaseEnd → Type 0
+IsDone Is end = (drive : Drive) × (last : Status6) × (end ≡ Done drive last) × Is drive.registers
 
-abbrev pub EndsAs : Bool → PhaseEnd → Type 0
-EndsAs true end = IsDone end
-EndsAs false end = IsFailed end
+abbrev pub EndsEqualised : (List ℕ → Type 0) → Bool → PhaseEnd → Type 0
+EndsEqualised Is true end = IsDone Is end
+EndsEqualised Is false end = IsFailed end
 
-three : (equalised fifth : Bool) (drive : List ℕ) (last : Status6) (end : PhaseEnd) → Some end ≡ first_of_three true equalised fifth drive last → EndsAs equalised end
-three true fifth drive last end e = (record { registers = drive }, last, cc)
-three false true drive last end e = (last, Reads, cc)
-three false false drive last end e = absurd (cc)
+three_ends : (Is : List ℕ → Type 0) (equalised fifth : Bool) (drive : List ℕ) (last : Status6) (end : PhaseEnd)
+    → Is drive → Some end ≡ first_of_three true equalised fifth drive last → EndsEqualised Is equalised end
+three_ends Is true fifth drive last end is e = (record { registers = drive }, last, cc, is)
+three_ends Is false true drive last end is e = (last, Reads, cc)
+three_ends Is false false drive last end is e = absurd (cc)
 
 equalisation_looks : (lanes : Lanes) (first : List ℕ) (before : List Status6) (status : Status6) → equalisation_ends lanes first (before ++ status ∷ []) (length before + 1) ≡ equalisation_end lanes (length before + 1) (drive_after lanes first (before ++ status ∷ []) (length before + 1 - 1)) status
 unfolding equalisation_ends
 equalisation_looks lanes first before status =
     ap (λ (s : Status6). equalisation_end lanes (length before + 1) (drive_after lanes first (before ++ status ∷ []) (length before + 1 - 1)) s) (status_at_end before status)
 
--- with the clocks, equalisation is done where the status says so, and else failed
-pub equalisation_ends_as : (lanes : Lanes) (first : List ℕ) (before : List Status6) (status : Status6) (end : PhaseEnd) (equalised : Bool) → equalisation_ends lanes first (before ++ status ∷ []) (length before + 1) ≡ Some end → cr_done lanes status.bytes ≡ true → eq_done lanes status.bytes ≡ equalised → EndsAs equalised end
-equalisation_ends_as lanes first before status end equalised e t q =
+-- with the clocks, equalisation is done where the status says so, with the drive in force, and else failed
+pub equalisation_ends_as : (Is : List ℕ → Type 0) (lanes : Lanes) (first : List ℕ) (before : List Status6)
+    (status : Status6) (end : PhaseEnd) (equalised : Bool)
+    → Is (drive_after lanes first before (length before))
+    → equalisation_ends lanes first (before ++ status ∷ []) (length before + 1) ≡ Some end
+    → cr_done lanes status.bytes ≡ true → eq_done lanes status.bytes ≡ equalised
+    → EndsEqualised Is equalised end
+equalisation_ends_as Is lanes first before status end equalised is e t q =
     let drive = drive_after lanes first (before ++ status ∷ []) (length before + 1 - 1) in
-    three equalised _ drive status end (sym e ∙ equalisation_looks lanes first before status ∙ ap (λ (r : Bool). first_of_three r (eq_done lanes status.bytes) (length before + 1 == 5) drive status) t ∙ ap (λ (r : Bool). first_of_three true r (length before + 1 == 5) drive status) q)
+    let same : drive_after lanes first before (length before) ≡ drive =
+        sym (ap (drive_after lanes first (before ++ status ∷ []))
+        (let n : length before + 1 - 1 ≡ length before = omega arith in n)
+        ∙ drive_after-append lanes first before (status ∷ []) (length before) (omega arith)) in
+    three_ends Is equalised _ drive status end (subst Is same is)
+    (sym e ∙ equalisation_looks lanes first before status
+    ∙ ap (λ (r : Bool). first_of_three r (eq_done lanes status.bytes) (length before + 1 == 5) drive status) t
+    ∙ ap (λ (r : Bool). first_of_three true r (length before + 1 == 5) drive status) q)
 
 chosen : (tps4 tps3 : Bool) → (pattern_register (if tps4 then Tps4 else if tps3 then Tps3 else Tps2) % 16 == 1) ≡ false
 chosen true tps3 = refl

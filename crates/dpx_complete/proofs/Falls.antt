@@ -6,6 +6,7 @@ use Rattle.dpx_base.specs.declared.rate.Rate.{Rate}
 use Rattle.dpx_base.specs.declared.link.Link.{Link}
 use Rattle.dpx_aux.specs.declared.transaction.AuxEnd.{AuxEnd}
 use Rattle.dpx_dpcd.specs.declared.caps.Caps.{Caps}
+use Rattle.dpx_dpcd.specs.declared.status.Drive.{Drive}
 use Rattle.dpx_dpcd.specs.declared.status.Status6.{Status6}
 use Rattle.dpx_dpcd.specs.Cell.{CellFacts}
 use Rattle.dpx_dpcd.specs.Channel.{channel_cell}
@@ -16,8 +17,11 @@ use Rattle.dpx_link.specs.Attempt.{equalised}
 use Rattle.dpx_link.specs.Fallback.{next_of, fall_back, after_failed_recovery, after_failed_equalisation}
 use Rattle.dpx_link.specs.Training.{Never, Attempts, AfterAttempt, end_of}
 use Rattle.dpx_complete.specs.Complete.{IsCell, EndsAtFall}
+use Rattle.dpx_complete.specs.Drive.{IsAskedFor}
 use Rattle.dpx_complete.specs.Fall.{all_recover, all_equalise, along, fall_from}
 use Rattle.dpx_complete.proofs.Attempts.{EndsSo, attempt_meets}
+use Rattle.dpx_complete.proofs.Drive.{IsRight, right_asked_for}
+use Rattle.dpx_complete.proofs.Ends.{IsDone}
 use Rattle.dpx_complete.proofs.Parts.{Meets, Gives, meets_more, meets_ends, meets_then}
 
 -- a step of the path, by whether the lanes recover and equalise
@@ -49,31 +53,40 @@ meets_gives Before Is never m =
 pub meets_given : {R : Type 0} {sink : SinkFacts} {defers : ℕ} {part : R → List Entry → Type 0} (Before : (ℕ → ℕ) → Type 0) (After : R → (ℕ → ℕ) → Type 0) → ((registers : ℕ → ℕ) → Before registers → Meets sink defers part (λ now. ⊤) After) → Meets sink defers part Before After
 meets_given Before After m = record { meets = λ registers state given history s b p a. (m registers b).meets registers state given history s tt p a }
 
-no_error : (recovers equalises : Bool) (x : PhaseEnd) (why : AuxEnd) → EndsSo recovers equalises x → Err why ≡ equalised x → ⊥
-no_error true true (Done drive last) why e same = cc
-no_error true true (Failed last cause) why e same = cc
-no_error true true (Lost last) why e same = cc
-no_error true true (Aux w) why e same = let f = e.2 in cc
-no_error true false (Done drive last) why e same = cc
-no_error true false (Failed last cause) why e same = cc
-no_error true false (Lost last) why e same = cc
-no_error true false (Aux w) why e same = let f = e.2 in cc
-no_error false equalises (Done drive last) why e same = cc
-no_error false equalises (Failed last cause) why e same = cc
-no_error false equalises (Lost last) why e same = cc
-no_error false equalises (Aux w) why e same = let f = e.1 in cc
+no_error : (channel : List CellFacts) (link : Link) (recovers equalises : Bool) (x : PhaseEnd) (why : AuxEnd) → EndsSo channel link recovers equalises x → Err why ≡ equalised x → ⊥
+no_error channel link true true (Done drive last) why e same = cc
+no_error channel link true true (Failed last cause) why e same = cc
+no_error channel link true true (Lost last) why e same = cc
+no_error channel link true true (Aux w) why e same = let f = e.2 in cc
+no_error channel link true false (Done drive last) why e same = cc
+no_error channel link true false (Failed last cause) why e same = cc
+no_error channel link true false (Lost last) why e same = cc
+no_error channel link true false (Aux w) why e same = let f = e.2 in cc
+no_error channel link false equalises (Done drive last) why e same = cc
+no_error channel link false equalises (Failed last cause) why e same = cc
+no_error channel link false equalises (Lost last) why e same = cc
+no_error channel link false equalises (Aux w) why e same = let f = e.1 in cc
 
 never_meets : {R : Type 0} {sink : SinkFacts} {defers : ℕ} (Before : (ℕ → ℕ) → Type 0) (After : R → (ℕ → ℕ) → Type 0) → Meets sink defers Never Before After
 never_meets Before After = record { meets = λ registers state given history s b p a. absurd p.never }
 
 -- what follows a failed attempt
-lower_meets : {sink : SinkFacts} {defers : ℕ} (left : ℕ) (caps : Caps) (first : Link) (last : Status6) (next : Option Link) → ((link : Link) → Meets sink defers (Attempts left caps first link) (λ registers. ⊤) (λ given registers. (requests : ℕ) → EndsAtFall (fall_from left sink.channel first link) (end_of requests given))) → Meets sink defers (AfterAttempt (Attempts left caps first) (fall_back last next)) (λ registers. ⊤) (λ given registers. (requests : ℕ) → EndsAtFall (along (fall_from left sink.channel first) next) (end_of requests given))
+lower_meets : {sink : SinkFacts} {defers : ℕ} (left : ℕ) (caps : Caps) (first : Link) (last : Status6) (next : Option Link) → ((link : Link) → Meets sink defers (Attempts left caps first link) (λ registers. ⊤) (λ given registers. (requests : ℕ) → EndsAtFall sink.channel (fall_from left sink.channel first link) (end_of requests given))) → Meets sink defers (AfterAttempt (Attempts left caps first) (fall_back last next)) (λ registers. ⊤) (λ given registers. (requests : ℕ) → EndsAtFall sink.channel (along (fall_from left sink.channel first) next) (end_of requests given))
 lower_meets left caps first last None more = meets_ends _ _ _ (λ registers b requests. tt)
 lower_meets left caps first last (Some link) more = more link
 
+-- the drive of an attempt that is done is the one asked for
+asked_for : (channel : List CellFacts) (link : Link) (drive : Drive) (last : Status6)
+    → IsDone (IsRight channel link) (Done drive last) → IsAskedFor channel link drive.registers
+asked_for channel link drive last e =
+    let done = e.2 in
+    let same : e.0 ≡ drive = cc in
+    subst (λ (d : Drive). IsAskedFor channel link d.registers) same (right_asked_for channel link e.0.registers e.3)
+
 -- what follows an attempt that ended so
-next_meets : {sink : SinkFacts} {defers : ℕ} (left : ℕ) (caps : Caps) (first link : Link) (recovers equalises : Bool) (x : PhaseEnd) → EndsSo recovers equalises x → ((lower : Link) → Meets sink defers (Attempts left caps first lower) (λ registers. ⊤) (λ given registers. (requests : ℕ) → EndsAtFall (fall_from left sink.channel first lower) (end_of requests given))) → MatchResult (equalised x) (λ end. Meets sink defers (AfterAttempt (Attempts left caps first) (next_of first link end)) (λ registers. ⊤) (λ given registers. (requests : ℕ) → EndsAtFall (stepped recovers equalises link (along (fall_from left sink.channel first) (after_failed_equalisation link)) (along (fall_from left sink.channel first) (after_failed_recovery first link))) (end_of requests given))) (λ why. ⊤)
-next_meets left caps first link true true (Done drive last) e more = meets_ends _ _ _ (λ registers b requests. refl)
+next_meets : {sink : SinkFacts} {defers : ℕ} (left : ℕ) (caps : Caps) (first link : Link) (recovers equalises : Bool) (x : PhaseEnd) → EndsSo sink.channel link recovers equalises x → ((lower : Link) → Meets sink defers (Attempts left caps first lower) (λ registers. ⊤) (λ given registers. (requests : ℕ) → EndsAtFall sink.channel (fall_from left sink.channel first lower) (end_of requests given))) → MatchResult (equalised x) (λ end. Meets sink defers (AfterAttempt (Attempts left caps first) (next_of first link end)) (λ registers. ⊤) (λ given registers. (requests : ℕ) → EndsAtFall sink.channel (stepped recovers equalises link (along (fall_from left sink.channel first) (after_failed_equalisation link)) (along (fall_from left sink.channel first) (after_failed_recovery first link))) (end_of requests given))) (λ why. ⊤)
+next_meets {sink = sink} left caps first link true true (Done drive last) e more =
+    meets_ends _ _ _ (λ registers b requests. (refl, asked_for sink.channel link drive last e))
 next_meets left caps first link true true (Failed last cause) e more = absurd (let f = e.2 in cc)
 next_meets left caps first link true true (Lost last) e more = absurd (let f = e.2 in cc)
 next_meets left caps first link true true (Aux why) e more = tt
@@ -87,14 +100,14 @@ next_meets left caps first link false equalises (Lost last) e more = lower_meets
 next_meets left caps first link false equalises (Aux why) e more = tt
 
 -- the attempts end at the end of the path
-pub attempts_meet : {sink : SinkFacts} {defers : ℕ} (caps : Caps) (first : Link) → defers ≤ 7 → ((rate : Rate) (lane : ℕ) → IsCell (channel_cell sink.channel rate lane)) → (left : ℕ) (link : Link) → Meets sink defers (Attempts left caps first link) (λ registers. ⊤) (λ given registers. (requests : ℕ) → EndsAtFall (fall_from left sink.channel first link) (end_of requests given))
+pub attempts_meet : {sink : SinkFacts} {defers : ℕ} (caps : Caps) (first : Link) → defers ≤ 7 → ((rate : Rate) (lane : ℕ) → IsCell (channel_cell sink.channel rate lane)) → (left : ℕ) (link : Link) → Meets sink defers (Attempts left caps first link) (λ registers. ⊤) (λ given registers. (requests : ℕ) → EndsAtFall sink.channel (fall_from left sink.channel first link) (end_of requests given))
 unfolding Attempts
 attempts_meet caps first few cells zero link = never_meets _ _
 attempts_meet {sink = sink} {defers = defers} caps first few cells (suc left) link =
     let r = all_recover sink.channel link in
     let e = all_equalise sink.channel link in
-    meets_then (λ registers. ⊤) (λ end registers. (x : PhaseEnd) × (Ok end ≡ equalised x) × EndsSo r e x) _
-    (meets_gives (λ registers. ⊤) (λ given. (x : PhaseEnd) × (given ≡ equalised x) × EndsSo r e x) (λ why h. no_error r e h.0 why h.2 h.1) (attempt_meets caps link few (cells link.rate)))
+    meets_then (λ registers. ⊤) (λ end registers. (x : PhaseEnd) × (Ok end ≡ equalised x) × EndsSo sink.channel link r e x) _
+    (meets_gives (λ registers. ⊤) (λ given. (x : PhaseEnd) × (given ≡ equalised x) × EndsSo sink.channel link r e x) (λ why h. no_error sink.channel link r e h.0 why h.2 h.1) (attempt_meets caps link few (cells link.rate)))
     (λ end. meets_given _ _ (λ registers h.
-    subst (λ (found : Option Link). Meets sink defers (AfterAttempt (Attempts left caps first) (next_of first link end)) (λ now. ⊤) (λ given now. (requests : ℕ) → EndsAtFall found (end_of requests given))) (sym (falls_on left sink.channel first link))
-    (subst (λ given. MatchResult given (λ end. Meets sink defers (AfterAttempt (Attempts left caps first) (next_of first link end)) (λ registers. ⊤) (λ given registers. (requests : ℕ) → EndsAtFall (stepped r e link (along (fall_from left sink.channel first) (after_failed_equalisation link)) (along (fall_from left sink.channel first) (after_failed_recovery first link))) (end_of requests given))) (λ why. ⊤)) (sym h.1) (next_meets left caps first link r e h.0 h.2 (attempts_meet caps first few cells left)))))
+    subst (λ (found : Option Link). Meets sink defers (AfterAttempt (Attempts left caps first) (next_of first link end)) (λ now. ⊤) (λ given now. (requests : ℕ) → EndsAtFall sink.channel found (end_of requests given))) (sym (falls_on left sink.channel first link))
+    (subst (λ given. MatchResult given (λ end. Meets sink defers (AfterAttempt (Attempts left caps first) (next_of first link end)) (λ registers. ⊤) (λ given registers. (requests : ℕ) → EndsAtFall sink.channel (stepped r e link (along (fall_from left sink.channel first) (after_failed_equalisation link)) (along (fall_from left sink.channel first) (after_failed_recovery first link))) (end_of requests given))) (λ why. ⊤)) (sym h.1) (next_meets left caps first link r e h.0 h.2 (attempts_meet caps first few cells left)))))

@@ -1,43 +1,12 @@
 -- The fallback path is never cut short.
 use Rattle.std.proofs.Common.{◌≡◌, ℕ, suc, zero, ◌+◌, ◌<◌, ◌≤◌, Bool, List, refl, sym, ap, ◌∙◌, arith, Option, Some, None}
-use Rattle.std.specs.Prelude.{IfSome}
-use Rattle.dpx_base.specs.declared.lanes.Lanes.{Lanes}
-use Rattle.dpx_base.specs.declared.lanes.Lanes.TheVariants.{One, Two, Four}
-use Rattle.dpx_base.specs.declared.rate.Rate.{Rate}
-use Rattle.dpx_base.specs.declared.rate.Rate.TheVariants.{Rbr, Hbr, Hbr2, Hbr3}
 use Rattle.dpx_base.specs.declared.link.Link.{Link}
 use Rattle.dpx_dpcd.specs.Cell.{CellFacts}
-use Rattle.dpx_link.specs.Fallback.{after_failed_recovery, after_failed_equalisation, rate_rank}
+use Rattle.dpx_link.specs.Fallback.{after_failed_recovery, after_failed_equalisation}
 use Rattle.dpx_link.specs.Training.{attempts_at_most}
-use Rattle.dpx_link.proofs.Tries.{rank_of, rank_of-bound}
+use Rattle.dpx_link.proofs.Ranks.{rank_of, rank_of-bound, Below, unrecovered_below, unequalised_below}
 use Rattle.dpx_complete.specs.Fall.{all_recover, all_equalise, along, fall_from, fall}
 use Rattle.dpx_complete.proofs.Falls.{stepped, falls_on}
-
-rate_bound : (rate : Rate) → rate_rank rate ≤ 3
-rate_bound Rbr = omega arith
-rate_bound Hbr = omega arith
-rate_bound Hbr2 = omega arith
-rate_bound Hbr3 = omega arith
-
--- fewer configurations come after it
-abbrev Below : Link → Option Link → Type 0
-Below link next = IfSome next (λ lower. rank_of lower < rank_of link)
-
-unrecovered_below : (first : Link) (rate : Rate) (lanes : Lanes) (enhanced : Bool) → Below (record { rate = rate; lanes = lanes; enhanced = enhanced }) (after_failed_recovery first (record { rate = rate; lanes = lanes; enhanced = enhanced }))
-unrecovered_below first Rbr One enhanced = tt
-unrecovered_below first Rbr Two enhanced = omega (arith, rate_bound first.rate)
-unrecovered_below first Rbr Four enhanced = omega (arith, rate_bound first.rate)
-unrecovered_below first Hbr lanes enhanced = omega arith
-unrecovered_below first Hbr2 lanes enhanced = omega arith
-unrecovered_below first Hbr3 lanes enhanced = omega arith
-
-unequalised_below : (rate : Rate) (lanes : Lanes) (enhanced : Bool) → Below (record { rate = rate; lanes = lanes; enhanced = enhanced }) (after_failed_equalisation (record { rate = rate; lanes = lanes; enhanced = enhanced }))
-unequalised_below rate Two enhanced = omega arith
-unequalised_below rate Four enhanced = omega arith
-unequalised_below Rbr One enhanced = tt
-unequalised_below Hbr One enhanced = omega arith
-unequalised_below Hbr2 One enhanced = omega arith
-unequalised_below Hbr3 One enhanced = omega arith
 
 along-same : (f g : Link → Option Link) (link : Link) (next : Option Link) → Below link next → ((lower : Link) → rank_of lower < rank_of link → f lower ≡ g lower) → along f next ≡ along g next
 along-same f g link None below same = refl

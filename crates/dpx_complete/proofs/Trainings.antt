@@ -24,16 +24,16 @@ use Rattle.dpx_complete.proofs.Meets.{answers_planned, new_stands}
 use Rattle.dpx_complete.proofs.Parts.{Meets, Gives, meets_ends, meets_then, meets_choice, meets_writes, meets_block}
 
 -- the attempts' end, and the closing write
-at_fall_no_error : (found : Option Link) (why : AuxEnd) → ((requests : ℕ) → EndsAtFall found (end_of requests (Err why))) → ⊥
-at_fall_no_error None why h = h 0
-at_fall_no_error (Some link) why h = h 0
+at_fall_no_error : (channel : List CellFacts) (found : Option Link) (why : AuxEnd) → ((requests : ℕ) → EndsAtFall channel found (end_of requests (Err why))) → ⊥
+at_fall_no_error channel None why h = h 0
+at_fall_no_error channel (Some link) why h = h 0
 
-trains_with_meets : {sink : SinkFacts} {defers : ℕ} (caps : Caps) (first : Link) → defers ≤ 7 → ((rate : Rate) (lane : ℕ) → IsCell (channel_cell sink.channel rate lane)) → Meets sink defers (TrainsWith caps first) (λ registers. ⊤) (λ given registers. (requests : ℕ) → EndsAtFall (fall sink.channel first) (end_of requests given))
+trains_with_meets : {sink : SinkFacts} {defers : ℕ} (caps : Caps) (first : Link) → defers ≤ 7 → ((rate : Rate) (lane : ℕ) → IsCell (channel_cell sink.channel rate lane)) → Meets sink defers (TrainsWith caps first) (λ registers. ⊤) (λ given registers. (requests : ℕ) → EndsAtFall sink.channel (fall sink.channel first) (end_of requests given))
 unfolding TrainsWith
 trains_with_meets {sink = sink} caps first few cells =
     meets_then (λ registers. ⊤) (λ nothing registers. ⊤) _ (meets_writes 0x00600 (0x01 ∷ []) (λ registers. ⊤) (λ registers. ⊤) few (record { some = omega arith; few = omega arith; within = omega arith }) (λ registers b. tt)) (λ nothing.
-    meets_then (λ registers. ⊤) (λ verdict registers. (requests : ℕ) → EndsAtFall (fall sink.channel first) (end_of requests (Ok verdict))) _
-    (meets_gives (λ registers. ⊤) (λ given. (requests : ℕ) → EndsAtFall (fall sink.channel first) (end_of requests given)) (at_fall_no_error (fall sink.channel first)) (attempts_meet caps first few cells attempts_at_most first))
+    meets_then (λ registers. ⊤) (λ verdict registers. (requests : ℕ) → EndsAtFall sink.channel (fall sink.channel first) (end_of requests (Ok verdict))) _
+    (meets_gives (λ registers. ⊤) (λ given. (requests : ℕ) → EndsAtFall sink.channel (fall sink.channel first) (end_of requests given)) (at_fall_no_error sink.channel (fall sink.channel first)) (attempts_meet caps first few cells attempts_at_most first))
     (λ verdict. meets_given _ _ (λ registers h. meets_then (λ now. ⊤) (λ nothing now. ⊤) _ (meets_writes 0x00102 (0x00 ∷ []) (λ now. ⊤) (λ now. ⊤) few (record { some = omega arith; few = omega arith; within = omega arith }) (λ now b. tt)) (λ nothing. meets_ends _ _ _ (λ now b. h)))))
 
 -- behind the capabilities

@@ -18,21 +18,23 @@ use Rattle.dpx_dpcd.specs.SinkPlan.{planned}
 use Rattle.dpx_link.specs.declared.train_end.TrainEnd.{TrainEnd}
 use Rattle.dpx_link.specs.declared.train_end.TrainEnd.TheVariants.{Trained, NotTrained, CapsRefused, AuxEnded}
 use Rattle.dpx_link.specs.Training.{Training}
+use Rattle.dpx_complete.specs.Drive.{IsAskedFor}
 use Rattle.dpx_complete.specs.Fall.{fall}
 
 -- the block of capabilities in force
 abbrev pub in_force : List ℕ → List ℕ → List ℕ
 in_force caps extended = if has_extended caps then extended else caps
 
--- trained at this configuration; or not trained, where there is none
-abbrev pub EndsAtFall : Option Link → TrainEnd → Type 0
-EndsAtFall (Some link) (Trained trained drive last requests) = trained ≡ link
-EndsAtFall None (NotTrained last requests) = ⊤
-EndsAtFall found end = ⊥
+-- trained at this configuration, driven as the cells ask for; or not trained, where there is none
+abbrev pub EndsAtFall : List CellFacts → Option Link → TrainEnd → Type 0
+EndsAtFall channel (Some link) (Trained trained drive last requests) =
+    (trained ≡ link) × IsAskedFor channel link drive.registers
+EndsAtFall channel None (NotTrained last requests) = ⊤
+EndsAtFall channel found end = ⊥
 
 -- where the capabilities are accepted, at the end of the fallback path; else refused as they are
 abbrev pub EndsByPlan : List CellFacts → Link → Result Caps CapsBad → TrainEnd → Type 0
-EndsByPlan channel top (Ok caps) end = EndsAtFall (fall channel (caps_start caps top)) end
+EndsByPlan channel top (Ok caps) end = EndsAtFall channel (fall channel (caps_start caps top)) end
 EndsByPlan channel top (Err why) (CapsRefused told requests) = told ≡ why
 EndsByPlan channel top (Err why) end = ⊥
 

@@ -1,2 +1,4 @@
 pub mod Decided
 pub mod Written
+pub mod Positions
+pub mod Suffices

@@ -1,6 +1,7 @@
 pub mod Caps
 pub mod Cell
 pub mod Channel
+pub mod Laws
 pub mod LoadPort
 pub mod Model
 pub mod Pattern

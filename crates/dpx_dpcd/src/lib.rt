@@ -5,12 +5,14 @@
 //! * `registers`: the transactions that a source makes of them
 //! * `channel`, `plan`: how a modelled channel behaves, and what a sink is to answer
 //! * `register_file`: the registers of a modelled sink
+//! * `laws`: what the definitions obey
 //! * `load_port`: a port that is loaded with such a plan
 //! * `status`: the facts of six status bytes, and the drive that they ask for
 #![tactic(auto)]
 
 mod caps;
 mod channel;
+mod laws;
 mod load_port;
 mod pattern;
 mod plan;
@@ -21,6 +23,7 @@ mod status;
 
 pub use caps::{Caps, CapsBad, has_extended};
 pub use channel::{Cell, Channel};
+pub use laws::answers_by_position;
 pub use load_port::LoadPort;
 pub use pattern::Pattern;
 pub use plan::{AnswerList, SinkPlan};

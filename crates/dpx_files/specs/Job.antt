@@ -50,16 +50,20 @@ job_of Train value = do
 abbrev pub link_asked : Job → Link
 link_asked (job.Train link sink) = link
 
--- what the value of a text says, if it is one
 -- what its sink is to answer
 abbrev pub plan_asked : Job → SinkPlan
 plan_asked (job.Train link sink) = sink
 
-abbrev pub job_in : Need → Option Data → Result Job JobBad
-job_in need None = Err NotJson
-job_in need (Some value) = refused (job_of need value)
+-- what a job was read for
+abbrev pub need_of : Job → Need
+need_of (job.Train link sink) = Train
+
+-- what the value of a text says, if it is one
+abbrev pub job_of_text : Need → Option Data → Result Job JobBad
+job_of_text need None = Err NotJson
+job_of_text need (Some value) = refused (job_of need value)
 
 -- the job that the bytes are, or the first refusal
 unfoldable pub reading : Need → List ℕ → Result Job JobBad
 reading need bytes =
-    if nat_lt longest_job (length bytes) then Err TooLong else job_in need (json_of bytes)
+    if nat_lt longest_job (length bytes) then Err TooLong else job_of_text need (json_of bytes)

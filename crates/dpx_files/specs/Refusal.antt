@@ -7,18 +7,18 @@ use Rattle.dpx_files.specs.declared.refusal.JobBad.{JobBad}
 use Rattle.dpx_files.specs.declared.refusal.JobBad.TheVariants.{Wrong, Memory}
 
 -- a field as it is printed: its member's name
-abbrev pub name_of : Field → List ℕ
-name_of Root = codes "job"
-name_of Link = codes "link"
-name_of Rate = codes "rate"
-name_of Lanes = codes "lanes"
-name_of Sink = codes "sink"
-name_of Script = codes "script"
-name_of Model = codes "model"
-name_of Caps = codes "caps"
-name_of Extended = codes "extended"
-name_of Defers = codes "defers"
-name_of Channel = codes "channel"
+abbrev pub field_name : Field → List ℕ
+field_name Root = codes "job"
+field_name Link = codes "link"
+field_name Rate = codes "rate"
+field_name Lanes = codes "lanes"
+field_name Sink = codes "sink"
+field_name Script = codes "script"
+field_name Model = codes "model"
+field_name Caps = codes "caps"
+field_name Extended = codes "extended"
+field_name Defers = codes "defers"
+field_name Channel = codes "channel"
 
 -- one reading, and behind it the next; the first field that is wrong stands
 infixl 10 ◌>>=◌

@@ -16,5 +16,5 @@ mod model;
 mod refusal;
 mod script;
 
-pub use job::{Job, Need, read_job};
+pub use job::{Job, LONGEST_JOB, Need, read_job};
 pub use refusal::{Field, JobBad};

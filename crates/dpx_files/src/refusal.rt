@@ -1,5 +1,5 @@
 ghost use Rattle.std.specs.Prelude.{◌≡◌};
-ghost use Rattle.dpx_files.specs.Refusal.{name_of};
+ghost use Rattle.dpx_files.specs.Refusal.{field_name};
 
 use thiserror::Error;
 
@@ -23,7 +23,7 @@ pub enum Field {
 impl Field {
     /// The name of the field's member, as reports print it; `job` for the text itself.
     pub fn name(self) -> &'static str
-        ensures { result.now ≡ name_of self }
+        ensures { result.now ≡ field_name self }
     {
         match self {
             Field::Root => "job",

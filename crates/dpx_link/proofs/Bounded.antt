@@ -256,7 +256,7 @@ made_asks zero history m = omega (arith, asks-waits history m)
 made_asks (suc n) history m =
     omega (arith, ap asks m.joined, asks-append m.waits (m.front ++ m.back), asks-append m.front m.back, asks-waits m.waits m.waited, transaction_asks m.request m.given m.front m.transacts, made_asks n m.back m.goes_on)
 
-pub training_asks : (top : Link) → HistoriesAre (Training top) (λ history. asks history ≤ 3104)
-training_asks top end history t =
+pub training_asked : (top : Link) → HistoriesAre (Training top) (λ history. asks history ≤ 3104)
+training_asked top end history t =
     let m = training_most top end history t in
     omega (arith, m.few, made_asks m.count history m.made)

@@ -1,4 +1,9 @@
 pub mod Bounded
 pub mod Decided
 pub mod Good
-pub mod Tries
+pub mod AttemptsMade
+pub mod Ranks
+pub mod LastStatus
+pub mod Waits
+pub mod FallsBack
+pub mod Suffices

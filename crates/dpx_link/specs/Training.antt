@@ -12,6 +12,7 @@ use Rattle.dpx_dpcd.specs.Caps.{has_extended, caps_read, caps_start}
 use Rattle.dpx_dpcd.specs.RegisterMap.{dpcd_rev, dp13_dpcd_rev, training_pattern_set, set_power}
 use Rattle.dpx_dpcd.specs.Registers.{ReadsBlock, Writes}
 use Rattle.dpx_dpcd.specs.Status.{AllLanesDone}
+use Rattle.dpx_phase.specs.Endings.{recovery_reads, equalisation_reads}
 use Rattle.dpx_link.specs.declared.fallback.Next.{Next}
 use Rattle.dpx_link.specs.declared.fallback.Next.TheVariants.{Try, Stop}
 use Rattle.dpx_link.specs.declared.train_end.Verdict.{Verdict}
@@ -57,6 +58,14 @@ training_transactions = 4 + attempts_at_most * attempt_transactions
 -- how many asks a training makes at most
 abbrev pub training_asks : ℕ
 training_asks = asks_at_most * training_transactions
+
+-- a wait before each read of a status
+abbrev pub training_waits : ℕ
+training_waits = attempts_at_most * (recovery_reads + equalisation_reads)
+
+-- how many entries the history of a training has at most
+abbrev pub training_entries : ℕ
+training_entries = training_asks + training_waits
 
 -- power, the attempts, and the closing write
 unfoldable pub TrainsWith : Caps → Link → Result Verdict AuxEnd → List Entry → Type 0

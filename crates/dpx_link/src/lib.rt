@@ -13,6 +13,6 @@ mod laws;
 mod train_end;
 mod training;
 
-pub use laws::{falls_in_order, is_bounded, one_history, trained_is_good};
+pub use laws::{falls_back, falls_in_order, is_bounded, is_read_last, one_history, some_history, trained_is_good};
 pub use train_end::TrainEnd;
 pub use training::train;

@@ -44,7 +44,7 @@ turns_decided phase (suc more) before =
     then_decided (reads_decided phase.pause) (λ status. turn_decided phase status _ _ (turns_decided phase more (before ++ status ∷ [])))
 
 -- the transactions of a whole round
-record RoundParts (phase : Phase) (status : Status6) (history : List Entry) : Type 0 where
+pub record RoundParts (phase : Phase) (status : Status6) (history : List Entry) : Type 0 where
   pub front : List Entry
   pub back : List Entry
   pub joined : history ≡ front ++ back
@@ -68,7 +68,7 @@ read_parts phase x (Err error) history front back joined reads on = absurd (let 
 read_parts phase x (Ok status) history front back joined reads on =
     written_parts phase status x on.middle history front back on.front on.back joined reads on.joined on.begins on.goes_on
 
-round_parts : (phase : Phase) (x : Status6) (history : List Entry) → Round phase (Ok x) history → RoundParts phase x history
+pub round_parts : (phase : Phase) (x : Status6) (history : List Entry) → Round phase (Ok x) history → RoundParts phase x history
 round_parts phase x history r = read_parts phase x r.middle history r.front r.back r.joined r.begins r.goes_on
 
 -- the last round is a turn with nothing behind it

@@ -7,3 +7,5 @@ pub mod Turns
 pub mod Least
 pub mod Decided
 pub mod Honest
+pub mod LastStatus
+pub mod Suffices

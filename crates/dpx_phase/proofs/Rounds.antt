@@ -34,7 +34,7 @@ goes_not_yet phase first state = record {
   rounds = refl;
 }
 
-Rounds-push : (phase : Phase) (xs : List Status6) (x : Status6) (before last : List Entry) → Rounds phase xs before → Round phase (Ok x) last → Rounds phase (xs ++ x ∷ []) (before ++ last)
+pub Rounds-push : (phase : Phase) (xs : List Status6) (x : Status6) (before last : List Entry) → Rounds phase xs before → Round phase (Ok x) last → Rounds phase (xs ++ x ∷ []) (before ++ last)
 Rounds-push phase [] x before last rounds round = record {
   front = last;
   back = [];
@@ -50,7 +50,7 @@ Rounds-push phase (y ∷ ys) x before last rounds round = record {
   goes_on = Rounds-push phase ys x rounds.back last rounds.goes_on round;
 }
 
-EndsNothing-push : (ending : List Status6 → ℕ → Option PhaseEnd) (xs : List Status6) (x : Status6) → LooksBack ending → EndsNothing ending xs → ending (xs ++ x ∷ []) (length xs + 1) ≡ None → EndsNothing ending (xs ++ x ∷ [])
+pub EndsNothing-push : (ending : List Status6 → ℕ → Option PhaseEnd) (xs : List Status6) (x : Status6) → LooksBack ending → EndsNothing ending xs → ending (xs ++ x ∷ []) (length xs + 1) ≡ None → EndsNothing ending (xs ++ x ∷ [])
 EndsNothing-push ending xs x looks unended none n some few =
     elim (cases_eq n (length xs + 1)) [
       | inl e ↦ subst (λ (k : ℕ). ending (xs ++ x ∷ []) k ≡ None) (sym e) none

@@ -15,6 +15,6 @@ mod steps;
 mod swings;
 
 pub use equalisation::equalise;
-pub use laws::{ends_in_time, ends_once, is_decided, is_honest};
+pub use laws::{ends_in_time, ends_once, is_answered, is_decided, is_honest, is_read_last};
 pub use phase_end::{FailCause, PhaseEnd};
 pub use recovery::recover;

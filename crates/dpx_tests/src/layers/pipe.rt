@@ -1,4 +1,4 @@
-ghost use Rattle.std.specs.Prelude.{◌≡◌, ◌×◌, IfOk};
+ghost use Rattle.std.specs.Prelude.{◌≡◌, IfOk};
 ghost use Rattle.dpx_base.specs.declared.depth.Depth.TheVariants.{Eight};
 
 use dpx_base::{Beam, BeginEnd, Depth, LaneSet, Lanes, Link, MemPipe, Mode, ModeField, Pipe, PipeEnd, Rate, RawMode, Sym};

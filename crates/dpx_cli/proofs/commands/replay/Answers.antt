@@ -1,18 +1,14 @@
-use Rattle.dpx_cli.proofs.Rows.{usage, refused, ended, trained}
+use Rattle.std.proofs.Common.{rules, refl}
+use Rattle.dpx_cli.proofs.Trainings.{unread_words_do}
 use Rattle.dpx_cli.proofs.commands.replay.Goals as goal
+use Rattle.dpx_cli.proofs.commands.replay.Goals.{in-Ok-Train, in-Err-Usage, in-Err-Memory}
 
-pub returns-clause-does : goal.returns-clause-does
-returns-clause-does g c =
-    record { outcome = c.run-outcome.result; caused = c.run-outcome.ensures; reported = c.report.ensures }
-
-pub returns-clause-usage_is_printed : goal.returns-clause-usage_is_printed
-returns-clause-usage_is_printed g c = usage (returns-clause-does g c)
-
-pub returns-clause-refused_says_why : goal.returns-clause-refused_says_why
-returns-clause-refused_says_why g c = refused (returns-clause-does g c)
-
-pub returns-clause-ended : goal.returns-clause-ended
-returns-clause-ended g c = ended (returns-clause-does g c)
-
-pub returns-clause-trained_wherever_asked : goal.returns-clause-trained_wherever_asked
-returns-clause-trained_wherever_asked g c = trained (returns-clause-does g c)
+pub returns-clause-train : goal.returns-clause-train
+returns-clause-train g c asked =
+    elim c.match-read_words.branch [
+      | in-Ok-Train w ↦ rw (w.src-is, w.aux-is, w.out-is, w.result-is) w.train.ensures
+      | in-Err-Usage w ↦ search rules
+      | in-Err-Memory w ↦
+          rw (w.src-is, w.aux-is, w.out-is, w.result-is)
+          (unread_words_do _ _ _ _ _ refl refl w.print_stop-in-Err-Memory.ensures)
+    ]

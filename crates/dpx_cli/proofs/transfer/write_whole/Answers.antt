@@ -10,11 +10,14 @@ returns-in_err-start-clause-front g c =
     let p = err_from_is_err_and c.from_residual.result c.from_residual.ensures.1 in
     let start = c.loop-start.start in
     let bytes = c.args.bytes.now in
+    let before = c.loop-start.invariant.printed in
+    let here = c.in_err-start.ensures in
     rw p.1 (record {
       front = take start bytes;
       rest = drop start bytes;
       divided = sym (take-append-drop start bytes);
-      taken = Appends-kept _ _ _ (take start bytes) c.loop-start.invariant.taken c.in_err-start.ensures.appends;
+      taken = Appends-kept _ _ _ (take start bytes) before.taken here.appends;
+      failed = record { more = omega (arith, before.calm, here.cause.cause.more) };
     })
 
 pub loop-start-preserved : goal.loop-start-preserved
@@ -22,10 +25,12 @@ loop-start-preserved g c =
     let start = c.loop-start.start in
     let n = c.in_ok-start.field-0 in
     let bytes = c.args.bytes.now in
-    let piece : take n (take (length bytes - start) (drop start bytes)) ≡ take n (drop start bytes) = ap (λ xs. take n xs) (take_rest bytes start) in
-    let taken = Appends-more _ _ _ (take start bytes) (take n (take (length bytes - start) (drop start bytes))) c.loop-start.invariant.taken c.in_ok-start.ensures.appends in
+    let rest = take (length bytes - start) (drop start bytes) in
+    let before = c.loop-start.invariant.printed in
+    let here = c.in_ok-start.ensures in
+    let piece : take n rest ≡ take n (drop start bytes) = ap (λ xs. take n xs) (take_rest bytes start) in
+    let taken = Appends-more _ _ _ (take start bytes) (take n rest) before.taken here.appends in
     record {
-      within = omega (arith, c.in_ok-start.ensures.within, ap length (take_rest bytes start), length-drop start bytes);
-      taken = rw (take-add start n bytes, ← piece) taken;
-      calm = c.in_ok-start.ensures.cause.calm ∙ c.loop-start.invariant.calm;
+      within = omega (arith, here.within, ap length (take_rest bytes start), length-drop start bytes);
+      printed = record { taken = rw (take-add start n bytes, ← piece) taken; calm = here.cause.calm ∙ before.calm };
     }

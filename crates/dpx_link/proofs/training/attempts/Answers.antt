@@ -1,6 +1,6 @@
 use Rattle.std.proofs.Common.{◌+◌, ◌-◌, arith}
 use Rattle.std.proofs.lemmas.Result.{err_from_is_err_and}
-use Rattle.dpx_link.proofs.Tries.{tried_more, tried_end, tried_fails}
+use Rattle.dpx_link.proofs.AttemptsMade.{tried_more, tried_end, tried_fails}
 use Rattle.dpx_link.proofs.training.attempts.Goals as goal
 
 pub returns-in_err-end-clause-attempts : goal.returns-in_err-end-clause-attempts

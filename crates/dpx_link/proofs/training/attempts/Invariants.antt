@@ -1,5 +1,5 @@
 use Rattle.std.proofs.Common.{◌-◌}
-use Rattle.dpx_link.proofs.Tries.{Tried}
+use Rattle.dpx_link.proofs.AttemptsMade.{Tried}
 use Rattle.dpx_link.proofs.training.attempts.Given as goal
 
 abbrev pub invariant-loop : goal.invariant-loop

@@ -1,9 +1,5 @@
 -- The attempts of a training, one after another.
 use Rattle.std.proofs.Common.{◌≡◌, ℕ, suc, ◌+◌, ◌*◌, ◌<◌, ◌≤◌, sym, subst, arith, Result, Ok, Err}
-use Rattle.dpx_base.specs.declared.rate.Rate.{Rate}
-use Rattle.dpx_base.specs.declared.rate.Rate.TheVariants.{Rbr, Hbr, Hbr2, Hbr3}
-use Rattle.dpx_base.specs.declared.lanes.Lanes.{Lanes}
-use Rattle.dpx_base.specs.declared.lanes.Lanes.TheVariants.{One, Two, Four}
 use Rattle.dpx_base.specs.declared.link.Link.{Link}
 use Rattle.dpx_base.specs.Port.{PortState}
 use Rattle.dpx_aux.specs.declared.transaction.AuxEnd.{AuxEnd}
@@ -14,30 +10,9 @@ use Rattle.dpx_link.specs.declared.attempt.AttemptEnd.{AttemptEnd}
 use Rattle.dpx_link.specs.declared.fallback.Next.TheVariants.{Try, Stop}
 use Rattle.dpx_link.specs.declared.train_end.Verdict.{Verdict}
 use Rattle.dpx_link.specs.Attempt.{Attempt}
-use Rattle.dpx_link.specs.Fallback.{next_of, rate_rank, lanes_rank, Falls}
+use Rattle.dpx_link.specs.Fallback.{next_of, Falls}
 use Rattle.dpx_link.specs.Training.{Attempts, AfterAttempt, attempts_at_most}
-
-rate_rank-bound : (rate : Rate) → rate_rank rate ≤ 3
-rate_rank-bound Rbr = omega arith
-rate_rank-bound Hbr = omega arith
-rate_rank-bound Hbr2 = omega arith
-rate_rank-bound Hbr3 = omega arith
-
-lanes_rank-bound : (lanes : Lanes) → lanes_rank lanes ≤ 2
-lanes_rank-bound One = omega arith
-lanes_rank-bound Two = omega arith
-lanes_rank-bound Four = omega arith
-
--- how many configurations may still come after this one
-abbrev pub rank_of : Link → ℕ
-rank_of link = lanes_rank link.lanes * 4 + rate_rank link.rate
-
-pub rank_of-bound : (link : Link) → rank_of link < 12
-rank_of-bound link = omega (arith, rate_rank-bound link.rate, lanes_rank-bound link.lanes)
-
--- what is tried next has fewer configurations after it
-pub rank_of-falls : (link next : Link) → Falls link (Try next) → rank_of next < rank_of link
-rank_of-falls link next f = grind (arith, rate_rank-bound next.rate)
+use Rattle.dpx_link.proofs.Ranks.{rank_of, rank_of-bound, rank_of-falls}
 
 -- Attempts were made, and so many are left, from this configuration on: what is a conversation from here is one from the
 -- first attempt.

@@ -1,0 +1,55 @@
+-- Why a command stops before all was done: its status, and the last lines of its report. This project's own.
+use Rattle.std.specs.Prelude.{ℕ, List, [], ◌++◌, codes}
+use Rattle.dpx_files.specs.declared.refusal.JobBad.{JobBad}
+use Rattle.dpx_files.specs.declared.refusal.JobBad.TheVariants as bad
+use Rattle.dpx_files.specs.Refusal.{field_name}
+use Rattle.dpx_cli.specs.declared.stop.JobRefusal.{JobRefusal}
+use Rattle.dpx_cli.specs.declared.stop.JobRefusal.TheVariants.{TooLong, NotJson, Wrong}
+use Rattle.dpx_cli.specs.declared.stop.Stop.{Stop}
+use Rattle.dpx_cli.specs.declared.stop.Stop.TheVariants as stop
+use Rattle.dpx_cli.specs.Lines.{line_feed, train_report}
+
+abbrev pub usage_line : List ℕ
+usage_line =
+    codes "usage: dp_replay train JOB | send JOB PIXELS CAPTURE [one|lanes] | run JOB PIXELS CAPTURE [one|lanes] | recv CAPTURE PIXELS [one|lanes] | gen SEED [one|lanes]\n"
+
+abbrev pub memory_line : List ℕ
+memory_line = codes "memory\n"
+
+abbrev pub read_fault_line : List ℕ
+read_fault_line = codes "read fault\n"
+
+-- a refusal as the reading of a job has it
+abbrev pub bad_of : JobRefusal → JobBad
+bad_of TooLong = bad.TooLong
+bad_of NotJson = bad.NotJson
+bad_of (Wrong field) = bad.Wrong field
+
+-- what a job that is not read stops a command with
+abbrev pub stop_of_job : JobBad → Stop
+stop_of_job bad.TooLong = stop.Job TooLong
+stop_of_job bad.NotJson = stop.Job NotJson
+stop_of_job (bad.Wrong field) = stop.Job (Wrong field)
+stop_of_job bad.Memory = stop.NoMemory
+
+abbrev pub stop_status : Stop → ℕ
+stop_status stop.Usage = 2
+stop_status (stop.Job why) = 3
+stop_status (stop.Untrained end) = 4
+stop_status stop.ReadFault = 7
+stop_status stop.OutFault = 8
+stop_status stop.NoMemory = 10
+
+abbrev pub job_line : JobRefusal → List ℕ
+job_line TooLong = codes "job too long\n"
+job_line NotJson = codes "job not json\n"
+job_line (Wrong field) = codes "job wrong " ++ field_name field ++ line_feed
+
+-- the lines that are printed behind what was printed before; where the report itself failed there are none
+abbrev pub stop_lines : Stop → List ℕ
+stop_lines stop.Usage = usage_line
+stop_lines (stop.Job why) = job_line why
+stop_lines (stop.Untrained end) = train_report end
+stop_lines stop.ReadFault = read_fault_line
+stop_lines stop.OutFault = []
+stop_lines stop.NoMemory = memory_line

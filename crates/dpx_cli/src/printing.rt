@@ -1,0 +1,66 @@
+ghost use Rattle.std.specs.Prelude.{◌≡◌};
+ghost use Rattle.dpx_cli.specs.Lines.{train_report};
+ghost use Rattle.dpx_cli.specs.Printing.{StepPrints, EndsWith, Finishes, StopsAtOnce};
+ghost use Rattle.dpx_cli.specs.Step.{◌⇒◌};
+
+use crate::lines::push_train_end;
+use crate::report::Report;
+use crate::stop::{MEMORY, Stop};
+use crate::transfer::write_whole;
+use dpx_base::Sink;
+use dpx_link::TrainEnd;
+use std::alloc::Global;
+
+/// Prints how training ended.
+pub(crate) fn print_training<O: Sink>(
+    alloc: Global,
+    out: &mut O,
+    end: &TrainEnd,
+) -> Result<(), Stop>
+    ensures { StepPrints (O.seen out.old ⇒ O.seen out.new) (train_report end.now) result }
+{
+    let mut report = Report::new(alloc);
+    push_train_end(&mut report, end)?;
+    print(out, &report)
+}
+
+/// Prints what a step of a command reports. Where that fails, nothing more is to be written.
+fn print<O: Sink>(out: &mut O, report: &Report) -> Result<(), Stop>
+    ensures { StepPrints (O.seen out.old ⇒ O.seen out.new) report.now result }
+{
+    match write_whole(out, report.as_bytes()) {
+        Ok(()) => Ok(()),
+        Err(_) => Err(Stop::OutFault),
+    }
+}
+
+/// Prints how a command ended, and gives its status.
+pub(crate) fn finish<O: Sink>(alloc: Global, out: &mut O, done: &Result<(), Stop>) -> u8
+    ensures { Finishes (O.seen out.old ⇒ O.seen out.new) done.now result }
+{
+    match done {
+        Ok(()) => 0,
+        Err(Stop::OutFault) => 8,
+        Err(stop) => print_stop(alloc, out, stop),
+    }
+}
+
+/// Prints the lines of a stop, and gives its status.
+pub(crate) fn print_stop<O: Sink>(alloc: Global, out: &mut O, stop: &Stop) -> u8
+    ensures { StopsAtOnce (O.seen out.old ⇒ O.seen out.new) stop.now result }
+{
+    let mut report = Report::new(alloc);
+    match stop.push_lines(&mut report) {
+        Ok(()) => end_with(out, report.as_bytes(), stop.status()),
+        Err(_) => end_with(out, MEMORY.as_bytes(), 10),
+    }
+}
+
+fn end_with<O: Sink>(out: &mut O, text: &[u8], status: u8) -> u8
+    ensures { EndsWith (O.seen out.old ⇒ O.seen out.new) text.now status result }
+{
+    match write_whole(out, text) {
+        Ok(()) => status,
+        Err(_) => 8,
+    }
+}

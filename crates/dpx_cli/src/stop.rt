@@ -1,0 +1,102 @@
+ghost use Rattle.std.specs.Prelude.{◌≡◌, ◌++◌, OnOk};
+ghost use Rattle.dpx_cli.specs.Stop.{stop_lines, stop_status, job_line, stop_of_job};
+
+use crate::lines::push_train_end;
+use crate::report::Report;
+use dpx_files::{Field, JobBad};
+use dpx_link::TrainEnd;
+use std::alloc::AllocError;
+
+/// Why a job is refused.
+#[derive(Clone, Copy, Debug, PartialEq, Eq)]
+pub(crate) enum JobRefusal {
+    TooLong,
+    NotJson,
+    Wrong(Field),
+}
+
+/// Why a command stops before all was done.
+#[derive(Debug, Drop)]
+pub(crate) enum Stop {
+    /// The words have no reading.
+    Usage,
+    Job(JobRefusal),
+    /// Training ended otherwise than as trained.
+    Untrained(TrainEnd),
+    ReadFault,
+    /// A write of the report failed: nothing more is written to it.
+    OutFault,
+    NoMemory,
+}
+
+const USAGE: &str =
+    "usage: dp_replay train JOB | send JOB PIXELS CAPTURE [one|lanes] | run JOB PIXELS CAPTURE [one|lanes] | recv CAPTURE PIXELS [one|lanes] | gen SEED [one|lanes]\n";
+
+pub(crate) const MEMORY: &str = "memory\n";
+
+impl From<AllocError> for Stop {
+    ghost use Rattle.std.specs.Prelude.{◌≡◌};
+    ghost use Rattle.dpx_cli.specs.declared.stop.Stop.TheVariants.{NoMemory};
+
+    ghost from_gives = { λ error stop. stop ≡ NoMemory };
+
+    fn from(_error: AllocError) -> Stop {
+        Stop::NoMemory
+    }
+}
+
+impl Stop {
+    /// What a job that was not read stops a command with.
+    pub(crate) fn of_job(why: JobBad) -> Stop
+        ensures { result ≡ stop_of_job why }
+    {
+        match why {
+            JobBad::TooLong => Stop::Job(JobRefusal::TooLong),
+            JobBad::NotJson => Stop::Job(JobRefusal::NotJson),
+            JobBad::Wrong(field) => Stop::Job(JobRefusal::Wrong(field)),
+            JobBad::Memory => Stop::NoMemory,
+        }
+    }
+
+    /// The exit status.
+    pub(crate) fn status(&self) -> u8
+        ensures { result ≡ stop_status self.now }
+    {
+        match self {
+            Stop::Usage => 2,
+            Stop::Job(_) => 3,
+            Stop::Untrained(_) => 4,
+            Stop::ReadFault => 7,
+            Stop::OutFault => 8,
+            Stop::NoMemory => 10,
+        }
+    }
+
+    /// Writes the last lines of the report.
+    pub(crate) fn push_lines(&self, report: &mut Report) -> Result<(), AllocError>
+        ensures { OnOk result (report.new ≡ report.old ++ stop_lines self.now) }
+    {
+        match self {
+            Stop::Usage => report.push(USAGE),
+            Stop::Job(why) => push_job(report, why),
+            Stop::Untrained(end) => push_train_end(report, end),
+            Stop::ReadFault => report.push("read fault\n"),
+            Stop::OutFault => Ok(()),
+            Stop::NoMemory => report.push(MEMORY),
+        }
+    }
+}
+
+fn push_job(report: &mut Report, why: &JobRefusal) -> Result<(), AllocError>
+    ensures { OnOk result (report.new ≡ report.old ++ job_line why.now) }
+{
+    match why {
+        JobRefusal::TooLong => report.push("job too long\n"),
+        JobRefusal::NotJson => report.push("job not json\n"),
+        JobRefusal::Wrong(field) => {
+            report.push("job wrong ")?;
+            report.push(field.name())?;
+            report.push("\n")
+        }
+    }
+}
