@@ -1,0 +1,10 @@
+pub mod Lists
+pub mod Runs
+pub mod Cuts
+pub mod Unique
+pub mod Sound
+pub mod GoingOn
+pub mod Exact
+pub mod Fronts
+pub mod Prefixes
+pub mod Plain

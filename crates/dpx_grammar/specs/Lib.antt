@@ -1,0 +1,5 @@
+pub mod Parts
+pub mod Gathered
+pub mod Accepted
+pub mod Machine
+pub mod Laws

@@ -1,0 +1,13 @@
+pub mod Kind
+pub mod State
+pub mod Columns
+pub mod Faults
+pub mod Bytes
+pub mod Counts
+pub mod Core
+pub mod Events
+pub mod Stands
+pub mod FirstFault
+pub mod Parser
+pub mod Received
+pub mod Laws

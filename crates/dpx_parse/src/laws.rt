@@ -1,0 +1,16 @@
+ghost use Rattle.dpx_parse.specs.Laws.{AcceptsExactly, GivesFrames, IsOneReason};
+
+/// A list of sets is accepted exactly where none of its parts has a fault.
+pub fn accepted_without_fault()
+    ensures { AcceptsExactly }
+{}
+
+/// The frames of an accepted list are what its events give.
+pub fn events_give_frames()
+    ensures { GivesFrames }
+{}
+
+/// A set that is refused behind others has one reason, with one pair of numbers.
+pub fn one_reason()
+    ensures { IsOneReason }
+{}
