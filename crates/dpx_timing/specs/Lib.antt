@@ -1,0 +1,4 @@
+pub mod Fit
+pub mod Kept
+pub mod Numbers
+pub mod Schedule
