@@ -1,0 +1,10 @@
+pub mod Absorbed
+pub mod Next
+pub mod Packed
+pub mod Ring
+pub mod Room
+pub mod Shift
+pub mod Stable
+pub mod Taken
+pub mod Ways
+pub mod Whole

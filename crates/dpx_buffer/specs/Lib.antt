@@ -1,0 +1,4 @@
+pub mod Buffer
+pub mod Inside
+pub mod Lane
+pub mod Seen

@@ -1,0 +1,115 @@
+ghost use Rattle.std.specs.Prelude.{◌≡◌, ◌<◌, ◌≤◌, ◌+◌, ◌++◌, ℕ, List, [], ◌∷◌, length, All, IfOk};
+ghost use Rattle.dpx_base.specs.declared.pixel.Pixel.{Pixel};
+ghost use Rattle.dpx_base.specs.Lanes.{count_of};
+ghost use Rattle.dpx_base.specs.Mode.{bits_of};
+ghost use Rattle.dpx_base.specs.Plan.{timing};
+ghost use Rattle.dpx_base.specs.Unpacking.{InRange};
+ghost use Rattle.dpx_pack.specs.Positions.{span};
+ghost use Rattle.dpx_buffer.specs.Lane.{lane_of, ring_capacity};
+ghost use Rattle.dpx_buffer.specs.Buffer.{Holds, HasRoom, Reached, bytes_whole, lane_byte};
+
+use crate::any_lanes::AnyLanes;
+use crate::group::Group;
+use dpx_base::{Arrivals, LaneBytes, Memory, Pixel};
+use dpx_timing::Plan;
+use std::alloc::Global;
+use std::marker::Model;
+
+/// The bytes of a plan's lines between the arrival of their pixels and their clocks.
+#[derive(Drop)]
+pub struct LineBuffer {
+    plan: Plan,
+    lanes: AnyLanes,
+    group: Group,
+    column: u16,
+}
+
+impl Model for LineBuffer {
+    ghost use Rattle.dpx_buffer.specs.Buffer.{BufferState};
+    ghost use Rattle.dpx_buffer.specs.Inside.{state_of, IsInside};
+
+    ghost Value = { BufferState };
+
+    ghost view = { state_of };
+
+    ghost invariant = { IsInside };
+}
+
+impl LineBuffer {
+    /// Before the first line. It takes its memory at once.
+    pub fn new(alloc: Global, plan: &Plan) -> Result<LineBuffer, Memory>
+        ensures plan { IfOk result (λ buffer. buffer.plan ≡ plan.now) }
+        ensures holds { IfOk result (λ buffer. Holds [] 0 buffer) }
+    {
+        let count = plan.link().lanes.count();
+        let lanes = AnyLanes::new(alloc, plan.mode().depth(), count)?;
+        let _unit = plan.unit();
+        Ok(LineBuffer {
+            plan: *plan,
+            lanes,
+            group: Group::new(),
+            column: 0,
+        })
+    }
+
+    /// Takes the pixels of a clock. A group that becomes whole is packed; so is a line's last one, with black pixels
+    /// in place of those that it has not.
+    pub fn absorb(&mut self, arrivals: &Arrivals)
+        requires range { All (InRange (bits_of self.old.plan.mode.depth)) arrivals.now }
+        requires room { HasRoom self.old (length arrivals.now) }
+        ensures plan { self.new.plan ≡ self.old.plan }
+        ensures holds { (pixels : List Pixel) (taken : ℕ) → Holds pixels taken self.old
+            → Holds (pixels ++ arrivals.now) taken self.new }
+    {
+        self.reached();
+        for place in 0..arrivals.len() {
+            self.reached();
+            self.absorb_one(arrivals.get(place));
+        }
+    }
+
+    /// Takes the byte of each lane that has waited longest.
+    pub fn take_due(&mut self) -> LaneBytes
+        requires { (lane : ℕ) → lane < count_of self.old.plan.link.lanes
+            → 0 < length (lane_of self.old.lanes lane).waiting }
+        ensures plan { self.new.plan ≡ self.old.plan }
+        ensures bytes { (pixels : List Pixel) (taken : ℕ) → Holds pixels taken self.old
+            → result ≡ span (λ lane. lane_byte self.old.plan pixels lane taken) 0 (count_of self.old.plan.link.lanes) }
+        ensures holds { (pixels : List Pixel) (taken : ℕ) → Holds pixels taken self.old
+            → Holds pixels (taken + 1) self.new }
+    {
+        self.lanes.take_each()
+    }
+
+    /// What every buffer meets.
+    fn reached(&self)
+        ensures { Reached self.now }
+    {
+        let _column = self.column;
+    }
+
+    fn absorb_one(&mut self, pixel: Pixel)
+        requires range { InRange (bits_of self.old.plan.mode.depth) pixel }
+        requires room { (pixels : List Pixel) (taken : ℕ) → Holds pixels taken self.old
+            → bytes_whole (timing self.old.plan) (length pixels + 1) ≤ taken + ring_capacity }
+        ensures plan { self.new.plan ≡ self.old.plan }
+        ensures holds { (pixels : List Pixel) (taken : ℕ) → Holds pixels taken self.old
+            → Holds (pixels ++ pixel ∷ []) taken self.new }
+    {
+        self.group.push(pixel);
+        let column = self.column + 1;
+        if column == self.plan.mode().width() {
+            self.lanes.push_group(&self.group);
+            self.lanes.finish_lines();
+            self.group.clear();
+            self.column = 0;
+            return;
+        }
+        self.column = column;
+        if self.group.len() < usize::from(self.plan.link().lanes.count()) {
+            return;
+        }
+        self.lanes.push_group(&self.group);
+        self.group.clear();
+    }
+}
