@@ -10,8 +10,8 @@ use Rattle.std.proofs.lemmas.Nat.Bits.{bit_at-zero}
 use Rattle.std.proofs.Math.Nat.{mul-le-mul_left, mul-add-mod_self_right}
 use Rattle.std.proofs.Math.Nat.{div-lt_iff_lt-mul}
 use Rattle.dpx_base.specs.declared.pixel.Pixel.{Pixel}
-use Rattle.dpx_base.specs.Lanes.{count_of}
-use Rattle.dpx_base.specs.Mode.{bits_of}
+use Rattle.dpx_base.specs.Lanes.{lanes_count}
+use Rattle.dpx_base.specs.Mode.{depth_bits}
 use Rattle.dpx_base.specs.Packing.{component, line_bit}
 use Rattle.dpx_base.specs.Plan.{PlanFacts, timing}
 use Rattle.dpx_base.specs.Sets.{black}
@@ -27,7 +27,7 @@ use Rattle.dpx_buffer.proofs.Stable.{if_less, if_more, byte_stable, lane_byte_at
 
 -- the bytes that wait, and those that became whole
 pub waiting_on : (p : PlanFacts) (pixels more : List Pixel) (lane taken i from to : ℕ) → IsPossible (timing p)
-    → lane < count_of p.link.lanes
+    → lane < lanes_count p.link.lanes
     → bytes_whole (timing p) (length pixels) ≡ i * symbols (timing p) + from
     → taken ≤ bytes_whole (timing p) (length pixels)
     → from ≤ to → to ≤ symbols (timing p)
@@ -66,15 +66,15 @@ black_bit c k = none (k / c)
     none (suc zero) = bit_at-zero (c - 1 - k % c)
     none (suc (suc i)) = bit_at-zero (c - 1 - k % c)
 
-placed_bit : (p : PlanFacts) (pixels : List Pixel) (line lane g k : ℕ) → 1 ≤ bits_of p.mode.depth
-    → length pixels ≤ line * p.mode.width + p.mode.width → k < 3 * bits_of p.mode.depth
-    → pixel_bit (bits_of p.mode.depth) (slice_index_or pixels
-    (line * p.mode.width + (lane + count_of p.link.lanes * g)) black) (0 + k)
-    ≡ line_bit (line_in p pixels line) lane (g * (3 * bits_of p.mode.depth) + k)
+placed_bit : (p : PlanFacts) (pixels : List Pixel) (line lane g k : ℕ) → 1 ≤ depth_bits p.mode.depth
+    → length pixels ≤ line * p.mode.width + p.mode.width → k < 3 * depth_bits p.mode.depth
+    → pixel_bit (depth_bits p.mode.depth) (slice_index_or pixels
+    (line * p.mode.width + (lane + lanes_count p.link.lanes * g)) black) (0 + k)
+    ≡ line_bit (line_in p pixels line) lane (g * (3 * depth_bits p.mode.depth) + k)
 unfolding line_bit
 placed_bit p pixels line lane g k pos few h =
-    let c : ℕ = bits_of p.mode.depth in
-    let x : ℕ = lane + count_of p.link.lanes * g in
+    let c : ℕ = depth_bits p.mode.depth in
+    let x : ℕ = lane + lanes_count p.link.lanes * g in
     let q : Pixel = slice_index_or pixels (line * p.mode.width + x) black in
     let e : 0 + k ≡ k = omega arith in
     let m : g * (3 * c) + k ≡ g * 3 * c + k = omega arith in
@@ -91,14 +91,14 @@ placed_bit p pixels line lane g k pos few h =
 
 -- the bits of a pixel that stands in its line, or past the list's end
 pub pixel_placed : (p : PlanFacts) (pixels : List Pixel) (line lane g : ℕ) → IsPossible (timing p)
-    → 1 ≤ bits_of p.mode.depth
+    → 1 ≤ depth_bits p.mode.depth
     → length pixels ≤ line * p.mode.width + p.mode.width
-    → bits_of_pixel (bits_of p.mode.depth) (slice_index_or pixels
-    (line * p.mode.width + (lane + count_of p.link.lanes * g)) black)
-    ≡ span (line_bit (line_in p pixels line) lane) (g * (3 * bits_of p.mode.depth)) (3 * bits_of p.mode.depth)
+    → bits_of_pixel (depth_bits p.mode.depth) (slice_index_or pixels
+    (line * p.mode.width + (lane + lanes_count p.link.lanes * g)) black)
+    ≡ span (line_bit (line_in p pixels line) lane) (g * (3 * depth_bits p.mode.depth)) (3 * depth_bits p.mode.depth)
 pixel_placed p pixels line lane g legal pos few =
-    let c : ℕ = bits_of p.mode.depth in
-    let q : Pixel = slice_index_or pixels (line * p.mode.width + (lane + count_of p.link.lanes * g)) black in
+    let c : ℕ = depth_bits p.mode.depth in
+    let q : Pixel = slice_index_or pixels (line * p.mode.width + (lane + lanes_count p.link.lanes * g)) black in
     bits_of_pixel_are c q pos ∙ span-same (pixel_bit c q) (line_bit (line_in p pixels line) lane) 0 (g * (3 * c))
     (3 * c)
     (λ k h. placed_bit p pixels line lane g k pos few h)
@@ -112,12 +112,12 @@ span-zero f a (suc n) h =
 
 -- past a line's last group there are no bits
 pub no_bit : (p : PlanFacts) (pixels : List Pixel) (line lane g k : ℕ) → IsPossible (timing p)
-    → p.mode.width ≤ count_of p.link.lanes * g
-    → g * (3 * bits_of p.mode.depth) ≤ k → line_bit (line_in p pixels line) lane k ≡ 0
+    → p.mode.width ≤ lanes_count p.link.lanes * g
+    → g * (3 * depth_bits p.mode.depth) ≤ k → line_bit (line_in p pixels line) lane k ≡ 0
 unfolding line_bit
 no_bit p pixels line lane g k legal past h =
-    let b : ℕ = 3 * bits_of p.mode.depth in
-    let x : ℕ = lane + count_of p.link.lanes * (k / b) in
+    let b : ℕ = 3 * depth_bits p.mode.depth in
+    let x : ℕ = lane + lanes_count p.link.lanes * (k / b) in
     let groups : g ≤ k / b = elim (cases_lt (k / b) g) [
       | inl less ↦ absurd (omega (arith, h, (div-lt_iff_lt-mul legal.bits_from).0 less))
       | inr more ↦ more
@@ -125,5 +125,5 @@ no_bit p pixels line lane g k legal past h =
     if_more x p.mode.width _ 0 (omega (
       arith,
       past,
-      mul-le-mul_left {m = g} {n = k / b} (count_of p.link.lanes) groups,
+      mul-le-mul_left {m = g} {n = k / b} (lanes_count p.link.lanes) groups,
     ))

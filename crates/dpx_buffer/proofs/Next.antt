@@ -6,8 +6,8 @@ use Rattle.std.proofs.lemmas.List.{get_or-drop, drop-append-le, length-drop, dro
 use Rattle.std.proofs.lemmas.Nat.{div-mul-add, mod-mul-add}
 use Rattle.std.proofs.Math.Nat.{div-add-mod, mod-lt}
 use Rattle.dpx_base.specs.declared.pixel.Pixel.{Pixel}
-use Rattle.dpx_base.specs.Lanes.{count_of}
-use Rattle.dpx_base.specs.Mode.{bits_of}
+use Rattle.dpx_base.specs.Lanes.{lanes_count}
+use Rattle.dpx_base.specs.Mode.{depth_bits}
 use Rattle.dpx_base.specs.Packing.{line_bit}
 use Rattle.dpx_base.specs.Plan.{timing}
 use Rattle.dpx_base.specs.Sets.{black}
@@ -30,11 +30,11 @@ pub record IsAt (b : BufferState) (pixels : List Pixel) (i a g : ℕ) : Type 0 w
   pub count : length pixels ≡ i * b.plan.mode.width + a
   pub few : a < b.plan.mode.width
   pub column : b.column ≡ a
-  pub groups : floor_div a (count_of b.plan.link.lanes) ≡ g
-  pub low : count_of b.plan.link.lanes * g ≤ a
-  pub high : a < count_of b.plan.link.lanes * g + count_of b.plan.link.lanes
-  pub group_count : count_of b.plan.link.lanes * g + length b.group ≡ a
-  pub group : b.group ≡ drop (i * b.plan.mode.width + count_of b.plan.link.lanes * g) pixels
+  pub groups : floor_div a (lanes_count b.plan.link.lanes) ≡ g
+  pub low : lanes_count b.plan.link.lanes * g ≤ a
+  pub high : a < lanes_count b.plan.link.lanes * g + lanes_count b.plan.link.lanes
+  pub group_count : lanes_count b.plan.link.lanes * g + length b.group ≡ a
+  pub group : b.group ≡ drop (i * b.plan.mode.width + lanes_count b.plan.link.lanes * g) pixels
 
 floor_of : (a d : ℕ) → floor_div a d ≡ a / d
 unfolding floor_div
@@ -42,10 +42,10 @@ floor_of a d = refl
 
 pub is_at : (b : BufferState) (pixels : List Pixel) (taken : ℕ) → IsPossible (timing b.plan) → Holds pixels taken b
     → IsAt b pixels (length pixels / b.plan.mode.width) (length pixels % b.plan.mode.width)
-    (floor_div (length pixels % b.plan.mode.width) (count_of b.plan.link.lanes))
+    (floor_div (length pixels % b.plan.mode.width) (lanes_count b.plan.link.lanes))
 is_at b pixels taken legal h =
     let w : ℕ = b.plan.mode.width in
-    let l : ℕ = count_of b.plan.link.lanes in
+    let l : ℕ = lanes_count b.plan.link.lanes in
     let n : ℕ = length pixels in
     let a : ℕ = n % w in
     let g : ℕ = floor_div a l in
@@ -78,10 +78,10 @@ one_longer pixels q = length-append pixels (q ∷ [])
 
 -- the group with the new pixel
 group_grows : (b : BufferState) (pixels : List Pixel) (q : Pixel) (i a g : ℕ) → IsAt b pixels i a g
-    → b.group ++ q ∷ [] ≡ drop (i * b.plan.mode.width + count_of b.plan.link.lanes * g) (pixels ++ q ∷ [])
+    → b.group ++ q ∷ [] ≡ drop (i * b.plan.mode.width + lanes_count b.plan.link.lanes * g) (pixels ++ q ∷ [])
 group_grows b pixels q i a g at =
     ap (λ xs. xs ++ q ∷ []) at.group
-    ∙ sym (drop-append-le (i * b.plan.mode.width + count_of b.plan.link.lanes * g) pixels (q ∷ [])
+    ∙ sym (drop-append-le (i * b.plan.mode.width + lanes_count b.plan.link.lanes * g) pixels (q ∷ [])
     (omega (arith, at.count, at.low)))
 
 line_now : (b : BufferState) (pixels : List Pixel) (i a g : ℕ) → IsAt b pixels i a g
@@ -90,7 +90,7 @@ line_now b pixels i a g at = ap (λ n. n / b.plan.mode.width) at.count ∙ div-m
 
 -- the bits that a lane holds
 pub held_bits : (b : BufferState) (pixels : List Pixel) (taken i a g lane : ℕ) → Holds pixels taken b
-    → IsAt b pixels i a g → lane < count_of b.plan.link.lanes
+    → IsAt b pixels i a g → lane < lanes_count b.plan.link.lanes
     → (lane_of b.lanes lane).bits ≡ open_bits b.plan pixels i lane (group_bits (timing b.plan) a)
 held_bits b pixels taken i a g lane h at few =
     h.bits lane few
@@ -98,7 +98,7 @@ held_bits b pixels taken i a g lane h at few =
     ∙ ap (λ z. open_bits b.plan pixels i lane (group_bits (timing b.plan) z)) at.column)
 
 pub bits_stay : (b : BufferState) (pixels more : List Pixel) (i a lane : ℕ) → IsPossible (timing b.plan)
-    → lane < count_of b.plan.link.lanes
+    → lane < lanes_count b.plan.link.lanes
     → length pixels ≡ i * b.plan.mode.width + a
     → open_bits b.plan pixels i lane (group_bits (timing b.plan) a)
     ≡ open_bits b.plan (pixels ++ more) i lane (group_bits (timing b.plan) a)
@@ -127,11 +127,11 @@ bits_there b pixels i a lane line column =
 -- a pixel that fills no group
 pub next_open : (b : BufferState) (pixels : List Pixel) (q : Pixel) (taken i a g : ℕ) → IsPossible (timing b.plan)
     → Holds pixels taken b
-    → IsAt b pixels i a g → a + 1 < b.plan.mode.width → length b.group + 1 < count_of b.plan.link.lanes
+    → IsAt b pixels i a g → a + 1 < b.plan.mode.width → length b.group + 1 < lanes_count b.plan.link.lanes
     → Holds (pixels ++ q ∷ []) taken (record b { group = b.group ++ q ∷ []; column = b.column + 1 })
 next_open b pixels q taken i a g legal h at inside open_ =
     let w : ℕ = b.plan.mode.width in
-    let l : ℕ = count_of b.plan.link.lanes in
+    let l : ℕ = lanes_count b.plan.link.lanes in
     let r : Timing = timing b.plan in
     let longer : length (pixels ++ q ∷ []) ≡ i * w + (a + 1) = omega (arith, one_longer pixels q, at.count) in
     let line : length (pixels ++ q ∷ []) / w ≡ i = ap (λ n. n / w) longer ∙ div-mul-add i w (a + 1) inside in
@@ -166,15 +166,15 @@ next_open b pixels q taken i a g legal h at inside open_ =
 
 -- a lane's pixel of the group that is packed
 pub lane_pixel : (b : BufferState) (pixels : List Pixel) (q : Pixel) (i a g lane : ℕ) → IsPossible (timing b.plan)
-    → 1 ≤ bits_of b.plan.mode.depth
+    → 1 ≤ depth_bits b.plan.mode.depth
     → IsAt b pixels i a g
-    → bits_of_pixel (bits_of b.plan.mode.depth) (slice_index_or (b.group ++ q ∷ []) lane black)
+    → bits_of_pixel (depth_bits b.plan.mode.depth) (slice_index_or (b.group ++ q ∷ []) lane black)
     ≡ span (line_bit (line_in b.plan (pixels ++ q ∷ []) i) lane) (group_bits (timing b.plan) a)
-    (3 * bits_of b.plan.mode.depth)
+    (3 * depth_bits b.plan.mode.depth)
 lane_pixel b pixels q i a g lane legal pos at =
     let w : ℕ = b.plan.mode.width in
-    let l : ℕ = count_of b.plan.link.lanes in
-    let c : ℕ = bits_of b.plan.mode.depth in
+    let l : ℕ = lanes_count b.plan.link.lanes in
+    let c : ℕ = depth_bits b.plan.mode.depth in
     let place : slice_index_or (b.group ++ q ∷ []) lane black
     ≡ slice_index_or (pixels ++ q ∷ []) (i * w + (lane + l * g)) black =
     ap (λ xs. slice_index_or xs lane black) (group_grows b pixels q i a g at)
@@ -188,20 +188,20 @@ lane_pixel b pixels q i a g lane legal pos at =
 -- a lane onto which a group's pixel was packed
 pub lane_packs : (b : BufferState) (pixels : List Pixel) (q : Pixel) (taken i a g lane : ℕ) (after : LaneState)
     → IsPossible (timing b.plan)
-    → 1 ≤ bits_of b.plan.mode.depth → Holds pixels taken b → IsAt b pixels i a g → lane < count_of b.plan.link.lanes
-    → Packs (bits_of_pixel (bits_of b.plan.mode.depth) (slice_index_or (b.group ++ q ∷ []) lane black))
+    → 1 ≤ depth_bits b.plan.mode.depth → Holds pixels taken b → IsAt b pixels i a g → lane < lanes_count b.plan.link.lanes
+    → Packs (bits_of_pixel (depth_bits b.plan.mode.depth) (slice_index_or (b.group ++ q ∷ []) lane black))
     (lane_of b.lanes lane) after
     → IsBehind (line_bit (line_in b.plan (pixels ++ q ∷ []) i) lane) (floor_div (group_bits (timing b.plan) a) 8)
-    (floor_div (group_bits (timing b.plan) a + 3 * bits_of b.plan.mode.depth) 8)
-    (group_bits (timing b.plan) a + 3 * bits_of b.plan.mode.depth)
+    (floor_div (group_bits (timing b.plan) a + 3 * depth_bits b.plan.mode.depth) 8)
+    (group_bits (timing b.plan) a + 3 * depth_bits b.plan.mode.depth)
     (lane_of b.lanes lane) after
 lane_packs b pixels q taken i a g lane after legal pos h at few packs =
     let bits : ℕ = group_bits (timing b.plan) a in
     comes_behind (line_bit (line_in b.plan (pixels ++ q ∷ []) i) lane) (floor_div bits 8)
-    (floor_div (bits + 3 * bits_of b.plan.mode.depth) 8) bits
-    (3 * bits_of b.plan.mode.depth) (bits_of_pixel (bits_of b.plan.mode.depth)
+    (floor_div (bits + 3 * depth_bits b.plan.mode.depth) 8) bits
+    (3 * depth_bits b.plan.mode.depth) (bits_of_pixel (depth_bits b.plan.mode.depth)
     (slice_index_or (b.group ++ q ∷ []) lane black)) (lane_of b.lanes lane) after packs
-    (floor_low bits 8) (is_whole (bits + 3 * bits_of b.plan.mode.depth))
+    (floor_low bits 8) (is_whole (bits + 3 * depth_bits b.plan.mode.depth))
     (held_bits b pixels taken i a g lane h at few ∙ bits_stay b pixels (q ∷ []) i a lane legal few at.count)
     (lane_pixel b pixels q i a g lane legal pos at)
 
@@ -209,7 +209,7 @@ lane_packs b pixels q taken i a g lane after legal pos h at few packs =
 abbrev pub PacksGroup : BufferState → Pixel → (after : List LaneState) → Type 0
 PacksGroup b q after =
     (lane : ℕ) → lane < length b.lanes
-    → Packs (bits_of_pixel (bits_of b.plan.mode.depth) (slice_index_or (b.group ++ q ∷ []) lane black))
+    → Packs (bits_of_pixel (depth_bits b.plan.mode.depth) (slice_index_or (b.group ++ q ∷ []) lane black))
     (lane_of b.lanes lane) (lane_of after lane)
 
 -- the line was ended on each lane
@@ -221,18 +221,18 @@ FinishesLines before after =
 -- a pixel that fills a group
 pub next_group : (b : BufferState) (pixels : List Pixel) (q : Pixel) (taken i a g : ℕ) (lanes : List LaneState)
     → IsPossible (timing b.plan)
-    → 1 ≤ bits_of b.plan.mode.depth → Holds pixels taken b → IsAt b pixels i a g → a + 1 < b.plan.mode.width
-    → length b.group + 1 ≡ count_of b.plan.link.lanes
+    → 1 ≤ depth_bits b.plan.mode.depth → Holds pixels taken b → IsAt b pixels i a g → a + 1 < b.plan.mode.width
+    → length b.group + 1 ≡ lanes_count b.plan.link.lanes
     → length lanes ≡ length b.lanes
     → PacksGroup b q lanes
     → Holds (pixels ++ q ∷ []) taken (record b { lanes = lanes; group = []; column = b.column + 1 })
 next_group b pixels q taken i a g lanes legal pos h at inside full same packs =
     let w : ℕ = b.plan.mode.width in
-    let l : ℕ = count_of b.plan.link.lanes in
+    let l : ℕ = lanes_count b.plan.link.lanes in
     let r : Timing = timing b.plan in
     let bits : ℕ = group_bits r a in
     let from : ℕ = floor_div bits 8 in
-    let to : ℕ = floor_div (bits + 3 * bits_of b.plan.mode.depth) 8 in
+    let to : ℕ = floor_div (bits + 3 * depth_bits b.plan.mode.depth) 8 in
     let longer : length (pixels ++ q ∷ []) ≡ i * w + (a + 1) = omega (arith, one_longer pixels q, at.count) in
     let line : length (pixels ++ q ∷ []) / w ≡ i = ap (λ n. n / w) longer ∙ div-mul-add i w (a + 1) inside in
     let column : b.column + 1 ≡ length (pixels ++ q ∷ []) % w =
@@ -240,7 +240,7 @@ next_group b pixels q taken i a g lanes legal pos h at inside full same packs =
     let groups : floor_div (a + 1) l ≡ g + 1 =
     floor_is (a + 1) l (g + 1) (omega (arith, at.group_count, full))
     (omega (arith, at.group_count, full, legal.lanes_from)) in
-    let more : group_bits r (a + 1) ≡ bits + 3 * bits_of b.plan.mode.depth =
+    let more : group_bits r (a + 1) ≡ bits + 3 * depth_bits b.plan.mode.depth =
     ap (λ z. z * r.bits) groups ∙ omega (arith, ap (λ z. z * r.bits) at.groups) in
     let split : b.column + 1 ≡ (g + 1) * l + 0 = omega (arith, at.column, at.group_count, full) in
     let rest : (b.column + 1) % l ≡ 0 = ap (λ z. z % l) split ∙ mod-mul-add (g + 1) l 0 legal.lanes_from in
@@ -248,7 +248,7 @@ next_group b pixels q taken i a g lanes legal pos h at inside full same packs =
     ap (bytes_whole r) longer ∙ (whole_at r i (a + 1) inside ∙ ap (λ z. i * symbols r + floor_div z 8) more) in
     let most : to ≤ symbols r = omega (arith, part_few r (a + 1) legal inside, ap (λ z. floor_div z 8) more) in
     let behind : (lane : ℕ) → lane < l → IsBehind (line_bit (line_in b.plan (pixels ++ q ∷ []) i) lane) from to
-    (bits + 3 * bits_of b.plan.mode.depth) (lane_of b.lanes lane) (lane_of lanes lane) =
+    (bits + 3 * depth_bits b.plan.mode.depth) (lane_of b.lanes lane) (lane_of lanes lane) =
     λ lane few. lane_packs b pixels q taken i a g lane (lane_of lanes lane) legal pos h at few
     (packs lane (omega (arith, few, h.lanes))) in
     let up : from ≤ to = (behind 0 legal.lanes_from).few in
@@ -301,7 +301,7 @@ zero_mod l h = omega (arith, mod-lt 0 h, div-add-mod 0 l)
 -- a pixel that ends a line
 pub next_line : (b : BufferState) (pixels : List Pixel) (q : Pixel) (taken i a g : ℕ) (middle lanes : List LaneState)
     → IsPossible (timing b.plan)
-    → 1 ≤ bits_of b.plan.mode.depth → Holds pixels taken b → IsAt b pixels i a g → a + 1 ≡ b.plan.mode.width
+    → 1 ≤ depth_bits b.plan.mode.depth → Holds pixels taken b → IsAt b pixels i a g → a + 1 ≡ b.plan.mode.width
     → length middle ≡ length b.lanes
     → PacksGroup b q middle
     → length lanes ≡ length middle
@@ -309,10 +309,10 @@ pub next_line : (b : BufferState) (pixels : List Pixel) (q : Pixel) (taken i a g
     → Holds (pixels ++ q ∷ []) taken (record b { lanes = lanes; group = []; column = 0 })
 next_line b pixels q taken i a g middle lanes legal pos h at ends same packs alike finishes =
     let w : ℕ = b.plan.mode.width in
-    let l : ℕ = count_of b.plan.link.lanes in
+    let l : ℕ = lanes_count b.plan.link.lanes in
     let r : Timing = timing b.plan in
     let bits : ℕ = group_bits r a in
-    let all : ℕ = bits + 3 * bits_of b.plan.mode.depth in
+    let all : ℕ = bits + 3 * depth_bits b.plan.mode.depth in
     let from : ℕ = floor_div bits 8 in
     let to : ℕ = floor_div all 8 in
     let s : ℕ = symbols r in

@@ -9,8 +9,8 @@ use Rattle.std.proofs.Math.Nat.{mod-lt}
 use Rattle.dpx_base.specs.declared.pixel.Pixel.{Pixel}
 use Rattle.dpx_base.specs.declared.depth.Depth.{Depth}
 use Rattle.dpx_base.specs.declared.depth.Depth.TheVariants.{Six, Eight, Ten, Twelve, Sixteen}
-use Rattle.dpx_base.specs.Lanes.{count_of}
-use Rattle.dpx_base.specs.Mode.{bits_of}
+use Rattle.dpx_base.specs.Lanes.{lanes_count}
+use Rattle.dpx_base.specs.Mode.{depth_bits}
 use Rattle.dpx_base.specs.Packing.{line_bit}
 use Rattle.dpx_base.specs.Plan.{timing}
 use Rattle.dpx_base.specs.Sets.{black}
@@ -27,7 +27,7 @@ use Rattle.dpx_buffer.specs.Buffer.{BufferState, Holds, Reached, line_in, lane_b
 use Rattle.dpx_buffer.proofs.Whole.{whole_at, whole_line, line_bytes}
 use Rattle.dpx_buffer.proofs.Next.{PacksGroup, IsAt, is_at, whole_now, held_bits, lane_packs}
 
-pub depth_pos : (d : Depth) → 1 ≤ bits_of d
+pub depth_pos : (d : Depth) → 1 ≤ depth_bits d
 depth_pos Six = omega arith
 depth_pos Eight = omega arith
 depth_pos Ten = omega arith
@@ -38,7 +38,7 @@ depth_pos Sixteen = omega arith
 pub record CanTake (b : BufferState) (q : Pixel) : Type 0 where
   pub reached : Reached b
   pub possible : IsPossible (timing b.plan)
-  pub range : InRange (bits_of b.plan.mode.depth) q
+  pub range : InRange (depth_bits b.plan.mode.depth) q
   pub room : (pixels : List Pixel) (taken : ℕ) → Holds pixels taken b
       → bytes_whole (timing b.plan) (length pixels + 1) ≤ taken + ring_capacity
 
@@ -52,11 +52,11 @@ range_at c xs l all = elim (cases_lt l (length xs)) [
 ]
 
 pub push_range : (b : BufferState) (q : Pixel) → CanTake b q → (l : ℕ) → l < length b.lanes
-    → InRange (bits_of b.plan.mode.depth) (slice_index_or (b.group ++ q ∷ []) l black)
+    → InRange (depth_bits b.plan.mode.depth) (slice_index_or (b.group ++ q ∷ []) l black)
 push_range b q f l few =
-    let c : ℕ = bits_of b.plan.mode.depth in
+    let c : ℕ = depth_bits b.plan.mode.depth in
     let group : All (InRange c) b.group =
-    rw f.reached.holds.group (All-drop (InRange c) (length f.reached.pixels - b.column % count_of b.plan.link.lanes)
+    rw f.reached.holds.group (All-drop (InRange c) (length f.reached.pixels - b.column % lanes_count b.plan.link.lanes)
     f.reached.pixels f.reached.in_range) in
     range_at c (b.group ++ q ∷ []) l (All-append (InRange c) b.group (q ∷ []) group
     (All-replicate (InRange c) 1 q f.range))
@@ -64,30 +64,30 @@ push_range b q f l few =
 -- whole bytes when a group is full
 pub group_whole : (b : BufferState) (pixels : List Pixel) (i a g : ℕ) → IsPossible (timing b.plan)
     → IsAt b pixels i a g → a + 1 < b.plan.mode.width
-    → length b.group + 1 ≡ count_of b.plan.link.lanes
+    → length b.group + 1 ≡ lanes_count b.plan.link.lanes
     → bytes_whole (timing b.plan) (length pixels + 1) ≡ i * symbols (timing b.plan)
-    + floor_div (group_bits (timing b.plan) a + 3 * bits_of b.plan.mode.depth) 8
+    + floor_div (group_bits (timing b.plan) a + 3 * depth_bits b.plan.mode.depth) 8
 group_whole b pixels i a g legal at inside full =
-    let l : ℕ = count_of b.plan.link.lanes in
+    let l : ℕ = lanes_count b.plan.link.lanes in
     let r : Timing = timing b.plan in
     let longer : length pixels + 1 ≡ i * b.plan.mode.width + (a + 1) = omega (arith, at.count) in
     let groups : floor_div (a + 1) l ≡ g + 1 =
     floor_is (a + 1) l (g + 1) (omega (arith, at.group_count, full))
     (omega (arith, at.group_count, full, legal.lanes_from)) in
-    let more : group_bits r (a + 1) ≡ group_bits r a + 3 * bits_of b.plan.mode.depth =
+    let more : group_bits r (a + 1) ≡ group_bits r a + 3 * depth_bits b.plan.mode.depth =
     ap (λ z. z * r.bits) groups ∙ omega (arith, ap (λ z. z * r.bits) at.groups) in
     ap (bytes_whole r) longer ∙ (whole_at r i (a + 1) inside ∙ ap (λ z. i * symbols r + floor_div z 8) more)
 
 pub record IsEnd (b : BufferState) (pixels : List Pixel) (i a : ℕ) : Type 0 where
   pub whole : bytes_whole (timing b.plan) (length pixels + 1) ≡ i * symbols (timing b.plan) + symbols (timing b.plan)
-  pub high : group_bits (timing b.plan) a + 3 * bits_of b.plan.mode.depth ≤ 8 * symbols (timing b.plan)
+  pub high : group_bits (timing b.plan) a + 3 * depth_bits b.plan.mode.depth ≤ 8 * symbols (timing b.plan)
 
 pub line_whole : (b : BufferState) (pixels : List Pixel) (i a g : ℕ) → IsPossible (timing b.plan)
     → IsAt b pixels i a g → a + 1 ≡ b.plan.mode.width
     → IsEnd b pixels i a
 line_whole b pixels i a g legal at ends =
     let r : Timing = timing b.plan in
-    let all : ℕ = group_bits r a + 3 * bits_of b.plan.mode.depth in
+    let all : ℕ = group_bits r a + 3 * depth_bits b.plan.mode.depth in
     let longer : length pixels + 1 ≡ (i + 1) * b.plan.mode.width = omega (arith, at.count, ends) in
     let more : (g + 1) * r.bits ≡ all = omega (arith, ap (λ z. z * r.bits) at.groups) in
     let s_is : symbols r ≡ ceil_div all 8 =
@@ -99,7 +99,7 @@ line_whole b pixels i a g legal at ends =
     }
 
 pub waiting_count : (b : BufferState) (pixels : List Pixel) (taken lane : ℕ) → Holds pixels taken b
-    → lane < count_of b.plan.link.lanes
+    → lane < lanes_count b.plan.link.lanes
     → length (lane_of b.lanes lane).waiting + taken ≡ bytes_whole (timing b.plan) (length pixels)
 waiting_count b pixels taken lane h few =
     omega (
@@ -110,7 +110,7 @@ waiting_count b pixels taken lane h few =
     )
 
 bits_count : (b : BufferState) (pixels : List Pixel) (taken i a g lane : ℕ) → Holds pixels taken b
-    → IsAt b pixels i a g → lane < count_of b.plan.link.lanes
+    → IsAt b pixels i a g → lane < lanes_count b.plan.link.lanes
     → length (lane_of b.lanes lane).bits + 8 * floor_div (group_bits (timing b.plan) a) 8
     ≡ group_bits (timing b.plan) a
 bits_count b pixels taken i a g lane h at few =
@@ -125,9 +125,9 @@ bits_count b pixels taken i a g lane h at few =
 room_at : (b : BufferState) (pixels : List Pixel) (taken i a g top lane : ℕ) → Holds pixels taken b
     → IsAt b pixels i a g
     → bytes_whole (timing b.plan) (length pixels + 1) ≡ i * symbols (timing b.plan) + top
-    → group_bits (timing b.plan) a + 3 * bits_of b.plan.mode.depth < 8 * top + 8
-    → bytes_whole (timing b.plan) (length pixels + 1) ≤ taken + ring_capacity → lane < count_of b.plan.link.lanes
-    → HasRoomFor (3 * bits_of b.plan.mode.depth) (lane_of b.lanes lane)
+    → group_bits (timing b.plan) a + 3 * depth_bits b.plan.mode.depth < 8 * top + 8
+    → bytes_whole (timing b.plan) (length pixels + 1) ≤ taken + ring_capacity → lane < lanes_count b.plan.link.lanes
+    → HasRoomFor (3 * depth_bits b.plan.mode.depth) (lane_of b.lanes lane)
 room_at b pixels taken i a g top lane h at whole high room few =
     omega (
       arith,
@@ -143,25 +143,25 @@ room_at b pixels taken i a g top lane h at whole high room few =
 pub reached_at : (b : BufferState) (q : Pixel) (f : CanTake b q)
     → IsAt b f.reached.pixels (length f.reached.pixels / b.plan.mode.width)
     (length f.reached.pixels % b.plan.mode.width)
-    (floor_div (length f.reached.pixels % b.plan.mode.width) (count_of b.plan.link.lanes))
+    (floor_div (length f.reached.pixels % b.plan.mode.width) (lanes_count b.plan.link.lanes))
 reached_at b q f = is_at b f.reached.pixels f.reached.taken f.possible f.reached.holds
 
 pub group_room : (b : BufferState) (q : Pixel) → CanTake b q → b.column + 1 < b.plan.mode.width
-    → length b.group + 1 ≡ count_of b.plan.link.lanes
+    → length b.group + 1 ≡ lanes_count b.plan.link.lanes
     → (l : ℕ) → l < length b.lanes
-    → HasRoomFor (3 * bits_of b.plan.mode.depth) (lane_of b.lanes l)
+    → HasRoomFor (3 * depth_bits b.plan.mode.depth) (lane_of b.lanes l)
 group_room b q f inside full l few =
     let h : Holds f.reached.pixels f.reached.taken b = f.reached.holds in
     let at = reached_at b q f in
     let all : ℕ = group_bits (timing b.plan) (length f.reached.pixels % b.plan.mode.width)
-    + 3 * bits_of b.plan.mode.depth in
+    + 3 * depth_bits b.plan.mode.depth in
     room_at b f.reached.pixels f.reached.taken _ _ _ (floor_div all 8) l h at
     (group_whole b f.reached.pixels _ _ _ f.possible at (omega (arith, inside, at.column)) full)
     (floor_high all 8 (omega arith)) (f.room f.reached.pixels f.reached.taken h) (omega (arith, few, h.lanes))
 
 pub line_room : (b : BufferState) (q : Pixel) → CanTake b q → b.column + 1 ≡ b.plan.mode.width
     → (l : ℕ) → l < length b.lanes
-    → HasRoomFor (3 * bits_of b.plan.mode.depth) (lane_of b.lanes l)
+    → HasRoomFor (3 * depth_bits b.plan.mode.depth) (lane_of b.lanes l)
 line_room b q f ends l few =
     let h : Holds f.reached.pixels f.reached.taken b = f.reached.holds in
     let at = reached_at b q f in
@@ -182,9 +182,9 @@ finish_room b q middle f ends same packs l few =
     let i : ℕ = length f.reached.pixels / b.plan.mode.width in
     let a : ℕ = length f.reached.pixels % b.plan.mode.width in
     let end_ = line_whole b f.reached.pixels _ _ _ f.possible at (omega (arith, ends, at.column)) in
-    let lane : l < count_of b.plan.link.lanes = omega (arith, few, same, h.lanes) in
+    let lane : l < lanes_count b.plan.link.lanes = omega (arith, few, same, h.lanes) in
     let bits : ℕ = group_bits (timing b.plan) a in
-    let all : ℕ = bits + 3 * bits_of b.plan.mode.depth in
+    let all : ℕ = bits + 3 * depth_bits b.plan.mode.depth in
     let behind = lane_packs b f.reached.pixels q f.reached.taken i a _ l (lane_of middle l) f.possible
     (depth_pos b.plan.mode.depth) h at lane
     (packs l (omega (arith, few, same))) in
@@ -215,7 +215,7 @@ finish_room b q middle f ends same packs l few =
     )
 
 -- a buffer that has room for a pixel, whatever list it stands for
-pub has_room : {b now : BufferState} {q : Pixel} → b ≡ now → Reached b → InRange (bits_of now.plan.mode.depth) q
+pub has_room : {b now : BufferState} {q : Pixel} → b ≡ now → Reached b → InRange (depth_bits now.plan.mode.depth) q
     → ((pixels : List Pixel) (taken : ℕ) → Holds pixels taken now
     → bytes_whole (timing now.plan) (length pixels + 1) ≤ taken + ring_capacity)
     → CanTake b q
@@ -240,8 +240,8 @@ inside_line b w reached is other = elim (cases_order (b.column + 1) w) [
   ))
 ]
 
-pub full_group : (b : BufferState) → Reached b → count_of b.plan.link.lanes ≤ length b.group + 1
-    → length b.group + 1 ≡ count_of b.plan.link.lanes
+pub full_group : (b : BufferState) → Reached b → lanes_count b.plan.link.lanes ≤ length b.group + 1
+    → length b.group + 1 ≡ lanes_count b.plan.link.lanes
 full_group b reached h =
     let at = is_at b reached.pixels reached.taken (plan_possible b.plan reached.planned) reached.holds in
     omega (arith, h, at.high, at.group_count)

@@ -4,7 +4,7 @@ use Rattle.std.proofs.Common.{ap, arith, inl, inr, length-append}
 use Rattle.std.proofs.lemmas.Bool.{cases_lt}
 use Rattle.std.proofs.Math.Nat.{mul-add-div_right, mul-add-mod_self_right, div-add-mod, mod-lt, mul-le-mul_right}
 use Rattle.dpx_base.specs.declared.pixel.Pixel.{Pixel}
-use Rattle.dpx_base.specs.Lanes.{count_of}
+use Rattle.dpx_base.specs.Lanes.{lanes_count}
 use Rattle.dpx_base.specs.Plan.{timing}
 use Rattle.dpx_base.specs.Timing.{Timing, IsPossible, symbols, floor_div}
 use Rattle.dpx_buffer.specs.Buffer.{bytes_whole}
@@ -75,7 +75,7 @@ line_more b pixels taken k legal h =
 -- room, as the buffer's state shows it
 pub room_seen : (b : BufferState) (pixels : List Pixel) (taken k : ℕ) → IsPossible (timing b.plan)
     → Holds pixels taken b
-    → ((lane : ℕ) → lane < count_of b.plan.link.lanes → length (lane_of b.lanes lane).waiting
+    → ((lane : ℕ) → lane < lanes_count b.plan.link.lanes → length (lane_of b.lanes lane).waiting
     + (bytes_whole (timing b.plan) (b.column + k) - bytes_whole (timing b.plan) b.column) ≤ ring_capacity)
     → bytes_whole (timing b.plan) (length pixels + k) ≤ taken + ring_capacity
 room_seen b pixels taken k legal h room =
@@ -90,7 +90,7 @@ room_seen b pixels taken k legal h room =
 pub room_shown : (b : BufferState) (pixels : List Pixel) (taken k : ℕ) → IsPossible (timing b.plan)
     → Holds pixels taken b
     → bytes_whole (timing b.plan) (length pixels + k) ≤ taken + ring_capacity
-    → (lane : ℕ) → lane < count_of b.plan.link.lanes
+    → (lane : ℕ) → lane < lanes_count b.plan.link.lanes
     → length (lane_of b.lanes lane).waiting + (bytes_whole (timing b.plan) (b.column + k) - bytes_whole
     (timing b.plan) b.column) ≤ ring_capacity
 room_shown b pixels taken k legal h room lane few =

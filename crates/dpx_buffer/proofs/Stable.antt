@@ -8,8 +8,8 @@ use Rattle.std.proofs.lemmas.Bool.Decides.{nat_tests}
 use Rattle.std.proofs.lemmas.Nat.{div-mul-add, mod-mul-add}
 use Rattle.std.proofs.Math.Nat.{div-add-mod, mod-lt, mul-le-mul_right, mul-le-mul_left, div-lt_iff_lt-mul}
 use Rattle.dpx_base.specs.declared.pixel.Pixel.{Pixel}
-use Rattle.dpx_base.specs.Lanes.{count_of}
-use Rattle.dpx_base.specs.Mode.{bits_of}
+use Rattle.dpx_base.specs.Lanes.{lanes_count}
+use Rattle.dpx_base.specs.Mode.{depth_bits}
 use Rattle.dpx_base.specs.Packing.{Line, component, number_of, line_bit, line_byte}
 use Rattle.dpx_base.specs.Plan.{PlanFacts, timing}
 use Rattle.dpx_base.specs.Sets.{black}
@@ -45,25 +45,25 @@ bit_same u v lane i w l d same = rw (w, l, d) (elim (cases_lt (lane + v.lanes * 
 
 -- bits of the whole groups of a line
 pub bit_stable : (p : PlanFacts) (pixels more : List Pixel) (line lane i : ℕ)
-    → (lane + count_of p.link.lanes * (i / (3 * bits_of p.mode.depth)) < p.mode.width
-    → line * p.mode.width + (lane + count_of p.link.lanes * (i / (3 * bits_of p.mode.depth))) < length pixels)
+    → (lane + lanes_count p.link.lanes * (i / (3 * depth_bits p.mode.depth)) < p.mode.width
+    → line * p.mode.width + (lane + lanes_count p.link.lanes * (i / (3 * depth_bits p.mode.depth))) < length pixels)
     → line_bit (line_in p (pixels ++ more) line) lane i ≡ line_bit (line_in p pixels line) lane i
 bit_stable p pixels more line lane i inside =
     bit_same (line_in p (pixels ++ more) line) (line_in p pixels line) lane i refl refl refl
     (λ h. get_or-append pixels more black _ (inside h))
 
 -- a group's pixels are among those of its line that came before it
-pub group_inside : (p : PlanFacts) (lane i a : ℕ) → IsPossible (timing p) → lane < count_of p.link.lanes
+pub group_inside : (p : PlanFacts) (lane i a : ℕ) → IsPossible (timing p) → lane < lanes_count p.link.lanes
     → i < group_bits (timing p) a
-    → lane + count_of p.link.lanes * (i / (3 * bits_of p.mode.depth)) < a
+    → lane + lanes_count p.link.lanes * (i / (3 * depth_bits p.mode.depth)) < a
 group_inside p lane i a legal l h =
-    let g : ℕ = floor_div a (count_of p.link.lanes) in
-    let less : i / (3 * bits_of p.mode.depth) < g = (div-lt_iff_lt-mul legal.bits_from).1 h in
+    let g : ℕ = floor_div a (lanes_count p.link.lanes) in
+    let less : i / (3 * depth_bits p.mode.depth) < g = (div-lt_iff_lt-mul legal.bits_from).1 h in
     omega (
       arith,
       l,
-      floor_low a (count_of p.link.lanes),
-      mul-le-mul_left {m = suc (i / (3 * bits_of p.mode.depth))} {n = g} (count_of p.link.lanes) less,
+      floor_low a (lanes_count p.link.lanes),
+      mul-le-mul_left {m = suc (i / (3 * depth_bits p.mode.depth))} {n = g} (lanes_count p.link.lanes) less,
     )
 
 pub byte_is : (line : Line) (lane j : ℕ) → line_byte line lane j ≡ byte_at (line_bit line lane) j
@@ -83,11 +83,11 @@ lane_byte_at p pixels lane i j h =
     (byte_is (line_in p pixels i) lane j)
 
 -- a whole byte's bits are among the pixels
-byte_inside : (p : PlanFacts) (lane i j line a n k : ℕ) → IsPossible (timing p) → lane < count_of p.link.lanes
+byte_inside : (p : PlanFacts) (lane i j line a n k : ℕ) → IsPossible (timing p) → lane < lanes_count p.link.lanes
     → j < symbols (timing p)
     → a < p.mode.width → n ≡ line * p.mode.width + a → i * symbols (timing p) + j < bytes_whole (timing p) n → k < 8
-    → lane + count_of p.link.lanes * ((8 * j + k) / (3 * bits_of p.mode.depth)) < p.mode.width
-    → i * p.mode.width + (lane + count_of p.link.lanes * ((8 * j + k) / (3 * bits_of p.mode.depth))) < n
+    → lane + lanes_count p.link.lanes * ((8 * j + k) / (3 * depth_bits p.mode.depth)) < p.mode.width
+    → i * p.mode.width + (lane + lanes_count p.link.lanes * ((8 * j + k) / (3 * depth_bits p.mode.depth))) < n
 byte_inside p lane i j line a n k legal l jl al ne h kl inside =
     let w : bytes_whole (timing p) n ≡ line * symbols (timing p) + floor_div (group_bits (timing p) a) 8 =
     ap (λ m. bytes_whole (timing p) m) ne ∙ whole_at (timing p) line a al in
@@ -115,7 +115,7 @@ byte_inside p lane i j line a n k legal l jl al ne h kl inside =
 
 -- a byte that is whole among some pixels
 pub byte_stable : (p : PlanFacts) (pixels more : List Pixel) (lane q : ℕ) → IsPossible (timing p)
-    → lane < count_of p.link.lanes
+    → lane < lanes_count p.link.lanes
     → q < bytes_whole (timing p) (length pixels) → lane_byte p (pixels ++ more) lane q ≡ lane_byte p pixels lane q
 byte_stable p pixels more lane q legal l h =
     at (q / symbols (timing p)) (q % symbols (timing p)) (mod-lt q (symbols_pos (timing p) legal))

@@ -6,7 +6,7 @@ use Rattle.std.proofs.lemmas.Option.{slice_get_within, get_or_from_slice_get}
 use Rattle.dpx_base.specs.declared.lanes.Lanes.{Lanes}
 use Rattle.dpx_base.specs.declared.lanes.Lanes.TheVariants.{One, Two, Four}
 use Rattle.dpx_base.specs.declared.pixel.Pixel.{Pixel}
-use Rattle.dpx_base.specs.Lanes.{count_of}
+use Rattle.dpx_base.specs.Lanes.{lanes_count}
 use Rattle.dpx_base.specs.Packing.{line_bit}
 use Rattle.dpx_base.specs.Plan.{PlanFacts, IsPlan, timing}
 use Rattle.dpx_base.specs.Timing.{Timing, IsPossible, floor_div}
@@ -25,19 +25,19 @@ no_bytes r legal =
     ap (bytes_whole r) e ∙ (whole_line r 0 legal ∙ omega arith)
 
 pub empty_holds : (p : PlanFacts) (lanes : List LaneState) (group : List Pixel) → IsPossible (timing p)
-    → lanes ≡ replicate (count_of p.link.lanes) empty_lane
+    → lanes ≡ replicate (lanes_count p.link.lanes) empty_lane
     → group ≡ [] → Holds [] 0 (record { plan = p; lanes = lanes; group = group; column = 0 })
 empty_holds p lanes group legal l g =
-    let n : length (replicate (count_of p.link.lanes) empty_lane) ≡ count_of p.link.lanes =
-    length-replicate (count_of p.link.lanes) empty_lane in
+    let n : length (replicate (lanes_count p.link.lanes) empty_lane) ≡ lanes_count p.link.lanes =
+    length-replicate (lanes_count p.link.lanes) empty_lane in
     let none : group_bits (timing p) 0 ≡ 0 = no_group (timing p) legal in
-    let each : (lane : ℕ) → lane < count_of p.link.lanes → lane_of lanes lane ≡ empty_lane =
+    let each : (lane : ℕ) → lane < lanes_count p.link.lanes → lane_of lanes lane ≡ empty_lane =
     λ lane few. ap (λ xs. lane_of xs lane) l
-    ∙ get_or-replicate (count_of p.link.lanes) lane empty_lane empty_lane few in
+    ∙ get_or-replicate (lanes_count p.link.lanes) lane empty_lane empty_lane few in
     record {
       lanes = ap length l ∙ n;
       column = sym (zero_mod p.mode.width legal.width_from);
-      group = g ∙ sym (drop_all (0 - 0 % count_of p.link.lanes) [] (omega arith));
+      group = g ∙ sym (drop_all (0 - 0 % lanes_count p.link.lanes) [] (omega arith));
       taken_few = omega arith;
       waiting =
           λ lane few. ap (λ x. x.waiting) (each lane few)
@@ -49,7 +49,7 @@ empty_holds p lanes group legal l g =
     }
 
 pub empty_reached : (p : PlanFacts) (lanes : List LaneState) (group : List Pixel) → IsPlan p
-    → lanes ≡ replicate (count_of p.link.lanes) empty_lane → group ≡ []
+    → lanes ≡ replicate (lanes_count p.link.lanes) empty_lane → group ≡ []
     → Reached (record { plan = p; lanes = lanes; group = group; column = 0 })
 empty_reached p lanes group planned l g = record {
   planned = planned;
@@ -78,7 +78,7 @@ head_is f from (suc count) byte rest e =
 
 -- the byte that was taken of a lane
 pub lane_head : (b : BufferState) (pixels : List Pixel) (taken lane byte : ℕ) (after : LaneState)
-    → Holds pixels taken b → lane < count_of b.plan.link.lanes
+    → Holds pixels taken b → lane < lanes_count b.plan.link.lanes
     → IsTaken (lane_of b.lanes lane) byte after
     → IsHead (lane_byte b.plan pixels lane) taken (bytes_whole (timing b.plan) (length pixels) - taken) byte
     after.waiting
@@ -93,10 +93,10 @@ pub taken_holds : (b : BufferState) (pixels : List Pixel) (taken : ℕ) (bytes :
     → ((l : ℕ) → l < length b.lanes → IsTaken (lane_of b.lanes l) (get_or bytes l 0) (lane_of lanes l))
     → Holds pixels (taken + 1) (record b { lanes = lanes })
 taken_holds b pixels taken bytes lanes legal h same each =
-    let t : (lane : ℕ) → lane < count_of b.plan.link.lanes → IsTaken (lane_of b.lanes lane) (get_or bytes lane 0)
+    let t : (lane : ℕ) → lane < lanes_count b.plan.link.lanes → IsTaken (lane_of b.lanes lane) (get_or bytes lane 0)
     (lane_of lanes lane) =
     λ lane few. each lane (omega (arith, few, h.lanes)) in
-    let head : (lane : ℕ) → lane < count_of b.plan.link.lanes → IsHead (lane_byte b.plan pixels lane) taken
+    let head : (lane : ℕ) → lane < lanes_count b.plan.link.lanes → IsHead (lane_byte b.plan pixels lane) taken
     (bytes_whole (timing b.plan) (length pixels) - taken) (get_or bytes lane 0) (lane_of lanes lane).waiting =
     λ lane few. lane_head b pixels taken lane (get_or bytes lane 0) (lane_of lanes lane) h few (t lane few) in
     let n : bytes_whole (timing b.plan) (length pixels) - taken - 1
@@ -143,7 +143,7 @@ pub taken_bytes : (b : BufferState) (pixels : List Pixel) (taken : ℕ) (bytes :
     → Holds pixels taken b
     → length bytes ≡ length b.lanes
     → ((l : ℕ) → l < length b.lanes → IsTaken (lane_of b.lanes l) (get_or bytes l 0) (lane_of lanes l))
-    → bytes ≡ span (λ lane. lane_byte b.plan pixels lane taken) 0 (count_of b.plan.link.lanes)
+    → bytes ≡ span (λ lane. lane_byte b.plan pixels lane taken) 0 (lanes_count b.plan.link.lanes)
 taken_bytes b pixels taken bytes lanes h same each =
     list_is bytes (λ lane. lane_byte b.plan pixels lane taken) 0 (λ i few. head i (omega (arith, few, same)))
     ∙ ap (λ z. span (λ lane. lane_byte b.plan pixels lane taken) 0 z) (same ∙ h.lanes)
@@ -166,7 +166,7 @@ pub pixel_in : (P : Pixel → Type 0) (all : List Pixel) (i : ℕ) (x : Pixel) �
 pixel_in P all i x holds e =
     rw (get_or_from_slice_get all i x x e) at (holds i x (slice_get_within all i x e))
 
-pub lanes_few : (l : Lanes) → (1 ≤ count_of l) × (count_of l ≤ 4)
+pub lanes_few : (l : Lanes) → (1 ≤ lanes_count l) × (lanes_count l ≤ 4)
 lanes_few One = (omega arith, omega arith)
 lanes_few Two = (omega arith, omega arith)
 lanes_few Four = (omega arith, omega arith)

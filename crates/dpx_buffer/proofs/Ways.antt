@@ -2,8 +2,8 @@
 use Rattle.std.proofs.Common.{◌≡◌, ℕ, ◌<◌, ◌+◌, List, [], ◌∷◌, ◌++◌, length, refl, arith, All}
 use Rattle.std.proofs.lemmas.List.Elements.{All-append, All-replicate}
 use Rattle.dpx_base.specs.declared.pixel.Pixel.{Pixel}
-use Rattle.dpx_base.specs.Lanes.{count_of}
-use Rattle.dpx_base.specs.Mode.{bits_of}
+use Rattle.dpx_base.specs.Lanes.{lanes_count}
+use Rattle.dpx_base.specs.Mode.{depth_bits}
 use Rattle.dpx_base.specs.Unpacking.{InRange}
 use Rattle.dpx_buffer.specs.Buffer.{BufferState, Holds, Reached}
 use Rattle.dpx_buffer.specs.Lane.{LaneState}
@@ -29,13 +29,13 @@ takes_on b q after f same holds = record {
   holds = holds;
 }
   where
-    in_range : All (InRange (bits_of b.plan.mode.depth)) (f.reached.pixels ++ q ∷ [])
+    in_range : All (InRange (depth_bits b.plan.mode.depth)) (f.reached.pixels ++ q ∷ [])
     in_range =
-        All-append (InRange (bits_of b.plan.mode.depth)) f.reached.pixels (q ∷ []) f.reached.in_range
-        (All-replicate (InRange (bits_of b.plan.mode.depth)) 1 q f.range)
+        All-append (InRange (depth_bits b.plan.mode.depth)) f.reached.pixels (q ∷ []) f.reached.in_range
+        (All-replicate (InRange (depth_bits b.plan.mode.depth)) 1 q f.range)
 
 pub stays_open : (b : BufferState) (q : Pixel) → CanTake b q → b.column + 1 < b.plan.mode.width
-    → length b.group + 1 < count_of b.plan.link.lanes
+    → length b.group + 1 < lanes_count b.plan.link.lanes
     → TakesOn b q (record b { group = b.group ++ q ∷ []; column = b.column + 1 })
 stays_open b q f inside open_ =
     takes_on b q _ f refl
@@ -44,7 +44,7 @@ stays_open b q f inside open_ =
     next_open b pixels q taken _ _ _ f.possible h at (omega (arith, inside, at.column)) open_)
 
 pub packs_group : (b : BufferState) (q : Pixel) (lanes : List LaneState) → CanTake b q
-    → b.column + 1 < b.plan.mode.width → length b.group + 1 ≡ count_of b.plan.link.lanes
+    → b.column + 1 < b.plan.mode.width → length b.group + 1 ≡ lanes_count b.plan.link.lanes
     → length lanes ≡ length b.lanes → PacksGroup b q lanes
     → TakesOn b q (record b { lanes = lanes; group = []; column = b.column + 1 })
 packs_group b q lanes f inside full same packs =

@@ -1,8 +1,8 @@
 -- What a line buffer holds of the pixels that it has absorbed: this project's own.
 use Rattle.std.specs.Prelude.{ℕ, ◌+◌, ◌-◌, ◌*◌, ◌/◌, ◌%◌, ◌<◌, ◌≤◌, ◌≡◌, List, length, drop, slice_index_or, All}
 use Rattle.dpx_base.specs.declared.pixel.Pixel.{Pixel}
-use Rattle.dpx_base.specs.Lanes.{count_of}
-use Rattle.dpx_base.specs.Mode.{bits_of}
+use Rattle.dpx_base.specs.Lanes.{lanes_count}
+use Rattle.dpx_base.specs.Mode.{depth_bits}
 use Rattle.dpx_base.specs.Packing.{Line, line_bit, line_byte}
 use Rattle.dpx_base.specs.Plan.{PlanFacts, IsPlan, timing}
 use Rattle.dpx_base.specs.Sets.{black}
@@ -22,8 +22,8 @@ pub record BufferState : Type 0 where
 abbrev pub line_in : PlanFacts → List Pixel → (line : ℕ) → Line
 line_in p pixels line = record {
   width = p.mode.width;
-  lanes = count_of p.link.lanes;
-  depth = bits_of p.mode.depth;
+  lanes = lanes_count p.link.lanes;
+  depth = depth_bits p.mode.depth;
   pixel = λ x. slice_index_or pixels (line * p.mode.width + x) black;
 }
 
@@ -47,14 +47,14 @@ open_bits p pixels line lane bits =
 
 -- the buffer has absorbed these pixels, and so many bytes of each lane were taken
 pub record Holds (pixels : List Pixel) (taken : ℕ) (b : BufferState) : Type 0 where
-  pub lanes : length b.lanes ≡ count_of b.plan.link.lanes
+  pub lanes : length b.lanes ≡ lanes_count b.plan.link.lanes
   pub column : b.column ≡ length pixels % b.plan.mode.width
-  pub group : b.group ≡ drop (length pixels - b.column % count_of b.plan.link.lanes) pixels
+  pub group : b.group ≡ drop (length pixels - b.column % lanes_count b.plan.link.lanes) pixels
   pub taken_few : taken ≤ bytes_whole (timing b.plan) (length pixels)
-  pub waiting : (lane : ℕ) → lane < count_of b.plan.link.lanes
+  pub waiting : (lane : ℕ) → lane < lanes_count b.plan.link.lanes
       → (lane_of b.lanes lane).waiting
       ≡ span (lane_byte b.plan pixels lane) taken (bytes_whole (timing b.plan) (length pixels) - taken)
-  pub bits : (lane : ℕ) → lane < count_of b.plan.link.lanes
+  pub bits : (lane : ℕ) → lane < lanes_count b.plan.link.lanes
       → (lane_of b.lanes lane).bits
       ≡ open_bits b.plan pixels (length pixels / b.plan.mode.width) lane (group_bits (timing b.plan) b.column)
 
@@ -65,7 +65,7 @@ made_whole b count = bytes_whole (timing b.plan) (b.column + count) - bytes_whol
 -- each lane has room for what so many further pixels make whole
 abbrev pub HasRoom : BufferState → (count : ℕ) → Type 0
 HasRoom b count =
-    (lane : ℕ) → lane < count_of b.plan.link.lanes
+    (lane : ℕ) → lane < lanes_count b.plan.link.lanes
     → length (lane_of b.lanes lane).waiting + made_whole b count ≤ ring_capacity
 
 -- Every buffer is a plan's, has absorbed some pixels, and some bytes of it were taken.
@@ -74,4 +74,4 @@ pub record Reached (b : BufferState) : Type 0 where
   pub pixels : List Pixel
   pub taken : ℕ
   pub holds : Holds pixels taken b
-  pub in_range : All (InRange (bits_of b.plan.mode.depth)) pixels
+  pub in_range : All (InRange (depth_bits b.plan.mode.depth)) pixels

@@ -1,5 +1,5 @@
 ghost use Rattle.std.specs.Prelude.{◌≡◌, ◌<◌, ◌≤◌, ◌+◌, ◌*◌, ℕ, [], length, replicate, slice_index_or, IfOk};
-ghost use Rattle.dpx_base.specs.Mode.{bits_of};
+ghost use Rattle.dpx_base.specs.Mode.{depth_bits};
 ghost use Rattle.dpx_base.specs.Sets.{black};
 ghost use Rattle.dpx_base.specs.Unpacking.{InRange};
 ghost use Rattle.dpx_pack.specs.Bits.{bits_of_pixel, padding};
@@ -25,7 +25,7 @@ pub(crate) enum AnyLanes {
 impl AnyLanes {
     /// Lanes on which nothing waits.
     pub(crate) fn new(alloc: Global, depth: Depth, count: u8) -> Result<AnyLanes, Memory>
-        ensures depth { IfOk result (λ lanes. depth_in lanes ≡ bits_of depth) }
+        ensures depth { IfOk result (λ lanes. depth_in lanes ≡ depth_bits depth) }
         ensures empty { IfOk result (λ lanes. lanes_in lanes ≡ replicate count empty_lane) }
     {
         match depth {

@@ -1,7 +1,7 @@
 ghost use Rattle.std.specs.Prelude.{◌≡◌, ◌<◌, ◌≤◌, ◌+◌, ◌++◌, ℕ, List, [], ◌∷◌, length, All, IfOk};
 ghost use Rattle.dpx_base.specs.declared.pixel.Pixel.{Pixel};
-ghost use Rattle.dpx_base.specs.Lanes.{count_of};
-ghost use Rattle.dpx_base.specs.Mode.{bits_of};
+ghost use Rattle.dpx_base.specs.Lanes.{lanes_count};
+ghost use Rattle.dpx_base.specs.Mode.{depth_bits};
 ghost use Rattle.dpx_base.specs.Plan.{timing};
 ghost use Rattle.dpx_base.specs.Unpacking.{InRange};
 ghost use Rattle.dpx_pack.specs.Positions.{span};
@@ -55,7 +55,7 @@ impl LineBuffer {
     /// Takes the pixels of a clock. A group that becomes whole is packed; so is a line's last one, with black pixels
     /// in place of those that it has not.
     pub fn absorb(&mut self, arrivals: &Arrivals)
-        requires range { All (InRange (bits_of self.old.plan.mode.depth)) arrivals.now }
+        requires range { All (InRange (depth_bits self.old.plan.mode.depth)) arrivals.now }
         requires room { HasRoom self.old (length arrivals.now) }
         ensures plan { self.new.plan ≡ self.old.plan }
         ensures holds { (pixels : List Pixel) (taken : ℕ) → Holds pixels taken self.old
@@ -70,11 +70,11 @@ impl LineBuffer {
 
     /// Takes the byte of each lane that has waited longest.
     pub fn take_due(&mut self) -> LaneBytes
-        requires { (lane : ℕ) → lane < count_of self.old.plan.link.lanes
+        requires { (lane : ℕ) → lane < lanes_count self.old.plan.link.lanes
             → 0 < length (lane_of self.old.lanes lane).waiting }
         ensures plan { self.new.plan ≡ self.old.plan }
         ensures bytes { (pixels : List Pixel) (taken : ℕ) → Holds pixels taken self.old
-            → result ≡ span (λ lane. lane_byte self.old.plan pixels lane taken) 0 (count_of self.old.plan.link.lanes) }
+            → result ≡ span (λ lane. lane_byte self.old.plan pixels lane taken) 0 (lanes_count self.old.plan.link.lanes) }
         ensures holds { (pixels : List Pixel) (taken : ℕ) → Holds pixels taken self.old
             → Holds pixels (taken + 1) self.new }
     {
@@ -89,7 +89,7 @@ impl LineBuffer {
     }
 
     fn absorb_one(&mut self, pixel: Pixel)
-        requires range { InRange (bits_of self.old.plan.mode.depth) pixel }
+        requires range { InRange (depth_bits self.old.plan.mode.depth) pixel }
         requires room { (pixels : List Pixel) (taken : ℕ) → Holds pixels taken self.old
             → bytes_whole (timing self.old.plan) (length pixels + 1) ≤ taken + ring_capacity }
         ensures plan { self.new.plan ≡ self.old.plan }

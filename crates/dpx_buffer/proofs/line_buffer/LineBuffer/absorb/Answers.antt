@@ -1,6 +1,6 @@
 use Rattle.std.proofs.Common.{◌≡◌, ◌+◌, ◌-◌, ℕ, length, refl, arith, ◌∙◌}
 use Rattle.std.proofs.lemmas.List.{append-nil, take_all}
-use Rattle.dpx_base.specs.Mode.{bits_of}
+use Rattle.dpx_base.specs.Mode.{depth_bits}
 use Rattle.dpx_base.specs.Unpacking.{InRange}
 use Rattle.dpx_timing.proofs.Sizes.{plan_possible}
 use Rattle.dpx_buffer.proofs.Taken.{one_more_taken, pixel_in}
@@ -20,7 +20,7 @@ loop-place-init c =
 
 pub absorb_one-requires-clause-range : goal.absorb_one-requires-clause-range
 absorb_one-requires-clause-range c =
-    rw c.loop-place.invariant.plan (pixel_in (InRange (bits_of c.args.self.now.plan.mode.depth)) c.args.arrivals.now
+    rw c.loop-place.invariant.plan (pixel_in (InRange (depth_bits c.args.self.now.plan.mode.depth)) c.args.arrivals.now
     c.loop-place.place c.get.result c.requires.range
     c.get.ensures)
 

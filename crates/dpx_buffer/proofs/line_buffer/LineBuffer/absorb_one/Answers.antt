@@ -1,5 +1,5 @@
 use Rattle.std.proofs.Common.{◌+◌, ◌++◌, ◌∙◌, [], ◌∷◌, length, arith, ap, length-append}
-use Rattle.dpx_base.specs.Lanes.{count_of}
+use Rattle.dpx_base.specs.Lanes.{lanes_count}
 use Rattle.dpx_buffer.specs.Inside.{state_of}
 use Rattle.dpx_buffer.specs.Seen.{lanes_in}
 use Rattle.dpx_buffer.proofs.Room.{has_room, holds_inside, push_range, line_room, finish_room, group_room}
@@ -60,7 +60,7 @@ opened c =
       c.len.ensures.length,
       c.from.ensures,
       c.count.ensures,
-      ap (λ link. count_of link.lanes) c.link.ensures,
+      ap (λ link. lanes_count link.lanes) c.link.ensures,
       ap length c.push.ensures,
       length-append c.self.inside.group (c.args.pixel ∷ []),
     ))
@@ -94,7 +94,7 @@ push_group-requires-2-clause-room c =
       c.len.ensures.length,
       c.from.ensures,
       c.count.ensures,
-      ap (λ link. count_of link.lanes) c.link.ensures,
+      ap (λ link. lanes_count link.lanes) c.link.ensures,
       ap length c.push.ensures,
       length-append c.self.inside.group (c.args.pixel ∷ []),
     ))))
@@ -116,7 +116,7 @@ full c =
       c.len.ensures.length,
       c.from.ensures,
       c.count.ensures,
-      ap (λ link. count_of link.lanes) c.link.ensures,
+      ap (λ link. lanes_count link.lanes) c.link.ensures,
       ap length c.push.ensures,
       length-append c.self.inside.group (c.args.pixel ∷ []),
     )))
