@@ -18,11 +18,11 @@ use Rattle.dpx_pack.proofs.Places.{bits_are, number_back, split_alike}
 use Rattle.dpx_pack.proofs.Spans.{span-none, span-same, span-append, length-span}
 
 -- the bits of a lane with these bytes
-abbrev bit_in : List ℕ → ℕ → ℕ
+abbrev pub bit_in : List ℕ → ℕ → ℕ
 bit_in bytes = carried_bit (λ j. get_or bytes j 0)
 
 -- further bytes leave the bits as they are
-bit_stays : (bytes more : List ℕ) (i : ℕ) → i < 8 * length bytes → bit_in (bytes ++ more) i ≡ bit_in bytes i
+pub bit_stays : (bytes more : List ℕ) (i : ℕ) → i < 8 * length bytes → bit_in (bytes ++ more) i ≡ bit_in bytes i
 unfolding carried_bit
 bit_stays bytes more i h =
     ap (λ byte. bit_at byte (7 - i % 8)) (get_or_append_left bytes more 0 (i / 8) (omega (arith, h)))
@@ -71,7 +71,7 @@ length_left c bytes old pos is =
       div-add-mod' (8 * length bytes) (3 * c),
     )
 
-quotient_is : (a d q r : ℕ) → a ≡ d * q + r → r < d → a / d ≡ q
+pub quotient_is : (a d q r : ℕ) → a ≡ d * q + r → r < d → a / d ≡ q
 quotient_is a d q r e h = rw (e ∙ turned) (div-mul-add q d r h)
   where
     turned : d * q + r ≡ q * d + r

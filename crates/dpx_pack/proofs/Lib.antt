@@ -1,6 +1,10 @@
 pub mod Carried
+pub mod ComeBack
+pub mod LaneFirsts
 pub mod LowBits
 pub mod LowBytes
+pub mod NumbersOfBits
 pub mod Places
 pub mod Spans
 pub mod Taken
+pub mod Turns

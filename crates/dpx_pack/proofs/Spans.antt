@@ -1,5 +1,6 @@
 -- Lists by their places.
-use Rattle.std.proofs.Common.{◌≡◌, ℕ, zero, suc, ◌<◌, ◌+◌, [], ◌∷◌, ◌++◌, length, refl, sym, ap, arith, ◌∙◌, get_or}
+use Rattle.std.proofs.Common.{List, map, ◌≡◌, ℕ, zero, suc, ◌<◌, ◌+◌, [], ◌∷◌, ◌++◌, length, refl, sym, ap, arith, ◌∙◌, get_or}
+use Rattle.std.proofs.lemmas.List.{map-append, length-map}
 use Rattle.std.proofs.lemmas.List.FromFn.{length-map-range_with_len, get_or-map-range_with_len}
 use Rattle.dpx_pack.specs.Positions.{span}
 
@@ -47,3 +48,21 @@ span-append f a (suc m) n =
 pub span-more : {A : Type 0} (f : ℕ → A) (a n : ℕ) → span f a (n + 1) ≡ span f a n ++ f (a + n) ∷ []
 span-more f a n =
     span-append f a n 1 ∙ ap (λ xs. span f a n ++ xs) (span-cons f (a + n) 0 ∙ ap (λ xs. f (a + n) ∷ xs) (span-none f (a + n + 1)))
+
+-- a list is mapped to a span, and one more item to its next
+pub map_more : {A B : Type 0} (g : A → B) (f : ℕ → B) (xs : List A) (x : A) (k : ℕ)
+    → map g xs ≡ span f 0 k → g x ≡ f k → map g (xs ++ x ∷ []) ≡ span f 0 (k + 1)
+map_more g f xs x k before next =
+    let at : 0 + k ≡ k = omega arith in
+    map-append g xs (x ∷ [])
+    ∙ (ap (λ ys. ys ++ g x ∷ []) before
+    ∙ (ap (λ y. span f 0 k ++ y ∷ []) (next ∙ ap f (sym at)) ∙ sym (span-more f 0 k)))
+
+pub length_mapped : {A B : Type 0} (g : A → B) (f : ℕ → B) (xs : List A) (k : ℕ) → map g xs ≡ span f 0 k → length xs ≡ k
+length_mapped g f xs k is = sym (length-map xs g) ∙ (ap length is ∙ length-span f 0 k)
+
+-- a list is a span, and with one more item the next
+pub span-next : {A : Type 0} (f : ℕ → A) (k : ℕ) (xs : List A) (x : A) → xs ≡ span f 0 k → x ≡ f k → xs ++ x ∷ [] ≡ span f 0 (k + 1)
+span-next f k xs x before next =
+    let at : 0 + k ≡ k = omega arith in
+    ap (λ ys. ys ++ x ∷ []) before ∙ (ap (λ y. span f 0 k ++ y ∷ []) (next ∙ ap f (sym at)) ∙ sym (span-more f 0 k))

@@ -20,11 +20,11 @@ use Rattle.dpx_pack.proofs.Places.{pixel_bit, byte_at, bits_of_pixel_are, packed
 use Rattle.dpx_pack.proofs.Spans.{span-none, span-cons, span-same, span-append, length-span}
 
 -- the bits of a lane with these pixels
-abbrev lane_bit : (depth : ℕ) → List Pixel → ℕ → ℕ
+abbrev pub lane_bit : (depth : ℕ) → List Pixel → ℕ → ℕ
 lane_bit depth pixels = line_bit (lane_line depth pixels) 0
 
 -- the bit of a pixel that is there
-bit_there : (c : ℕ) (xs : List Pixel) (i : ℕ) → i / (3 * c) < length xs
+pub bit_there : (c : ℕ) (xs : List Pixel) (i : ℕ) → i / (3 * c) < length xs
     → lane_bit c xs i ≡ bit_at (component (get_or xs (i / (3 * c)) black) (i % (3 * c) / c)) (c - 1 - i % c)
 unfolding line_bit
 bit_there c xs i h =
@@ -56,7 +56,7 @@ bit_of_next c xs p k pos h =
     ∙ rw (q, m, low, get_or-append_seam xs p [] black) refl)
 
 -- behind the pixels there are zeros
-no_bit : (c : ℕ) (xs : List Pixel) (i : ℕ) → 1 ≤ c → length xs * (3 * c) ≤ i → lane_bit c xs i ≡ 0
+pub no_bit : (c : ℕ) (xs : List Pixel) (i : ℕ) → 1 ≤ c → length xs * (3 * c) ≤ i → lane_bit c xs i ≡ 0
 unfolding line_bit
 no_bit c xs i pos h =
     let past : length xs ≤ 0 + 1 * (i / (3 * c)) = le_of_div (length xs) (3 * c) i (omega (arith, pos)) h in

@@ -8,10 +8,14 @@ use Rattle.dpx_base.specs.Timing.{symbols_of}
 use Rattle.dpx_base.specs.Unpacking.{carried_bit, carried_pixel}
 use Rattle.dpx_pack.specs.Positions.{span}
 
+-- the line of these pixels
+abbrev pub line_of : List Pixel → (lanes depth : ℕ) → Line
+line_of pixels lanes depth =
+    record { width = length pixels; lanes = lanes; depth = depth; pixel = λ x. slice_index_or pixels x black }
+
 -- the pixels of a lane, as a line on that lane alone
 abbrev pub lane_line : (depth : ℕ) → List Pixel → Line
-lane_line depth pixels =
-    record { width = length pixels; lanes = 1; depth = depth; pixel = λ x. slice_index_or pixels x black }
+lane_line depth pixels = line_of pixels 1 depth
 
 -- the bytes that so many pixels make whole
 abbrev pub whole_byte_count : (depth count : ℕ) → ℕ
