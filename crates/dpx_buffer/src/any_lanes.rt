@@ -3,7 +3,8 @@ ghost use Rattle.dpx_base.specs.Mode.{depth_bits};
 ghost use Rattle.dpx_base.specs.Sets.{black};
 ghost use Rattle.dpx_base.specs.Unpacking.{InRange};
 ghost use Rattle.dpx_pack.specs.Bits.{bits_of_pixel, padding};
-ghost use Rattle.dpx_buffer.specs.Lane.{empty_lane, lane_of, Packs, IsTaken, HasRoomFor, HasRoomToFinish};
+ghost use Rattle.dpx_buffer.specs.Lane.{ring_capacity, empty_lane, lane_of, Packs, IsTaken, HasRoomFor};
+ghost use Rattle.dpx_buffer.specs.Lane.{HasRoomToFinish};
 ghost use Rattle.dpx_buffer.specs.Seen.{depth_in, lanes_in};
 
 use crate::group::Group;
@@ -39,8 +40,10 @@ impl AnyLanes {
 
     /// Packs a pixel onto each lane.
     pub(crate) fn push_group(&mut self, group: &Group)
-        requires range { (l : ℕ) → l < length (lanes_in self.old) → InRange (depth_in self.old) (slice_index_or group.now l black) }
-        requires room { (l : ℕ) → l < length (lanes_in self.old) → HasRoomFor (3 * depth_in self.old) (lane_of (lanes_in self.old) l) }
+        requires range { (l : ℕ) → l < length (lanes_in self.old)
+            → InRange (depth_in self.old) (slice_index_or group.now l black) }
+        requires room { (l : ℕ) → l < length (lanes_in self.old)
+            → HasRoomFor (3 * depth_in self.old) (lane_of (lanes_in self.old) l) }
         ensures depth { depth_in self.new ≡ depth_in self.old }
         ensures count { length (lanes_in self.new) ≡ length (lanes_in self.old) }
         ensures each { (l : ℕ) → l < length (lanes_in self.old)
@@ -74,10 +77,26 @@ impl AnyLanes {
         }
     }
 
+    /// How many bytes wait on the first lane.
+    pub(crate) fn waiting(&self) -> usize
+        requires { 0 < length (lanes_in self.now) }
+        ensures length { result ≡ length (lane_of (lanes_in self.now) 0).waiting }
+        ensures few { result ≤ ring_capacity }
+    {
+        match self {
+            AnyLanes::Six(lanes) => lanes[0].len(),
+            AnyLanes::Eight(lanes) => lanes[0].len(),
+            AnyLanes::Ten(lanes) => lanes[0].len(),
+            AnyLanes::Twelve(lanes) => lanes[0].len(),
+            AnyLanes::Sixteen(lanes) => lanes[0].len(),
+        }
+    }
+
     /// Takes the first byte of each lane.
     pub(crate) fn take_each(&mut self) -> LaneBytes
         requires count { (1 ≤ length (lanes_in self.old)) × (length (lanes_in self.old) ≤ 4) }
-        requires some { (l : ℕ) → l < length (lanes_in self.old) → 0 < length (lane_of (lanes_in self.old) l).waiting }
+        requires some { (l : ℕ) → l < length (lanes_in self.old)
+            → 0 < length (lane_of (lanes_in self.old) l).waiting }
         ensures depth { depth_in self.new ≡ depth_in self.old }
         ensures count { length (lanes_in self.new) ≡ length (lanes_in self.old) }
         ensures bytes { length result ≡ length (lanes_in self.old) }

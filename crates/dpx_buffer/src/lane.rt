@@ -25,7 +25,8 @@ impl<const C: usize> Model for Lane<C> {
 
     ghost view = { λ a. record { bits = a.packer; waiting = a.waiting.items } };
 
-    ghost invariant = { λ a. (a.waiting.capacity ≡ ring_capacity) × (length a.waiting.items ≤ ring_capacity) × (length a.packer < 8) };
+    ghost invariant = { λ a. (a.waiting.capacity ≡ ring_capacity)
+        × (length a.waiting.items ≤ ring_capacity) × (length a.packer < 8) };
 }
 
 /// The bytes that fit a lane's ring.
@@ -74,6 +75,14 @@ impl<const C: usize> Lane<C> {
     {
         let bytes = self.packer.finish_line();
         self.waiting.fill_from_slice(bytes.as_slice());
+    }
+
+    /// How many bytes wait.
+    pub(crate) fn len(&self) -> usize
+        ensures length { result ≡ length self.now.waiting }
+        ensures few { result ≤ ring_capacity }
+    {
+        self.waiting.len()
     }
 
     /// Takes the byte that has waited longest.

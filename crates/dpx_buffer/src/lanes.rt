@@ -2,7 +2,7 @@ ghost use Rattle.std.specs.Prelude.{◌≡◌, ◌<◌, ◌≤◌, ◌+◌, ◌*
 ghost use Rattle.dpx_base.specs.Sets.{black};
 ghost use Rattle.dpx_base.specs.Unpacking.{InRange};
 ghost use Rattle.dpx_pack.specs.Bits.{bits_of_pixel, padding};
-ghost use Rattle.dpx_buffer.specs.Lane.{ring_capacity, empty_lane, lane_of, Packs, IsTaken, HasRoomFor, HasRoomToFinish};
+ghost use Rattle.dpx_buffer.specs.Lane.{empty_lane, lane_of, Packs, IsTaken, HasRoomFor, HasRoomToFinish};
 
 use crate::group::Group;
 use crate::lane::Lane;
@@ -29,7 +29,8 @@ pub(crate) fn push_group<const C: usize>(lanes: &mut Vec<Lane<C>>, group: &Group
     requires room { (l : ℕ) → l < length lanes.old.items → HasRoomFor (3 * C) (lane_of lanes.old.items l) }
     ensures count { length lanes.new.items ≡ length lanes.old.items }
     ensures each { (l : ℕ) → l < length lanes.old.items
-        → Packs (bits_of_pixel C (slice_index_or group.now l black)) (lane_of lanes.old.items l) (lane_of lanes.new.items l) }
+        → Packs (bits_of_pixel C (slice_index_or group.now l black))
+        (lane_of lanes.old.items l) (lane_of lanes.new.items l) }
 {
     for lane in 0..lanes.len() {
         lanes[lane].push(group.pixel_of(lane));

@@ -1,4 +1,4 @@
-ghost use Rattle.std.specs.Prelude.{◌≡◌, ◌<◌, ◌≤◌, ◌+◌, ◌++◌, ℕ, List, [], ◌∷◌, length, All, IfOk};
+ghost use Rattle.std.specs.Prelude.{◌≡◌, ◌↔◌, true, ◌<◌, ◌≤◌, ◌+◌, ◌++◌, ◌^◌, ℕ, List, [], ◌∷◌, length, All, IfOk};
 ghost use Rattle.dpx_base.specs.declared.pixel.Pixel.{Pixel};
 ghost use Rattle.dpx_base.specs.Lanes.{lanes_count};
 ghost use Rattle.dpx_base.specs.Mode.{depth_bits};
@@ -79,6 +79,41 @@ impl LineBuffer {
             → Holds pixels (taken + 1) self.new }
     {
         self.lanes.take_each()
+    }
+
+    /// How many bytes wait on each lane, at most 40.
+    pub fn waiting(&self) -> usize
+        ensures each { (lane : ℕ) → lane < lanes_count self.now.plan.link.lanes
+            → length (lane_of self.now.lanes lane).waiting ≡ result }
+        ensures few { result ≤ ring_capacity }
+    {
+        self.reached();
+        self.lanes.waiting()
+    }
+
+    /// Whether there is room for what the pixels of a clock make whole.
+    pub fn has_room(&self, arrivals: &Arrivals) -> bool
+        ensures { (result ≡ true) ↔ HasRoom self.now (length arrivals.now) }
+    {
+        self.reached();
+        let column = u64::from(self.column);
+        let more = self.bytes_whole(column + arrivals.len() as u64) - self.bytes_whole(column);
+        self.waiting() as u64 + more <= 40
+    }
+
+    /// The bytes of each lane that so many pixels make whole.
+    #[tactic(auto, unfolding(crate::specs::Buffer::bytes_whole, dpx_base::specs::Timing::floor_div))]
+    fn bytes_whole(&self, count: u64) -> u64
+        requires { count ≤ 8194 }
+        ensures value { result ≡ bytes_whole (timing self.now.plan) count }
+        ensures small { result ≤ 2 ^ 62 }
+    {
+        let mode = self.plan.mode();
+        let lanes = u64::from(self.plan.link().lanes.count());
+        let bits = 3 * u64::from(mode.depth().bits());
+        let width = u64::from(mode.width());
+        let lines = count / width * u64::from(self.plan.symbols());
+        lines + count % width / lanes * bits / 8
     }
 
     /// What every buffer meets.

@@ -8,6 +8,7 @@ use std::process::Abort;
 
 mod aux;
 mod base;
+mod buffer;
 mod dpcd;
 mod files;
 mod link;
@@ -17,6 +18,7 @@ mod phase;
 mod pipe;
 mod register_file;
 mod sinkmodel;
+mod timing;
 
 /// The channel behaves so at this rate on this lane.
 pub(crate) fn behaves(rt: &impl Abort, channel: &Channel, rate: Rate, lane: u8, cell: Cell)
