@@ -1,7 +1,7 @@
 //! The line buffer on a line whose packing is worked out by hand.
 
 ghost use Rattle.std.specs.Prelude.{◌≡◌};
-ghost use Rattle.dpx_base.specs.Mode.{bits_of};
+ghost use Rattle.dpx_base.specs.Mode.{depth_bits};
 ghost use Rattle.dpx_base.specs.Unpacking.{InRange};
 
 use super::timing::mode;
@@ -19,7 +19,7 @@ const LAST: Pixel = Pixel {
 };
 
 fn absorbs(rt: &impl Abort, buffer: &mut LineBuffer, pixel: Pixel)
-    requires depth { bits_of buffer.old.plan.mode.depth ≡ 10 }
+    requires depth { depth_bits buffer.old.plan.mode.depth ≡ 10 }
     requires range { InRange 10 pixel }
     ensures { buffer.new.plan ≡ buffer.old.plan }
 {
