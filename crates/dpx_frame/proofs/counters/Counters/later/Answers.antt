@@ -1,0 +1,13 @@
+use Rattle.std.proofs.Common.{arith}
+use Rattle.dpx_frame.proofs.LineSteps.{at_before}
+use Rattle.dpx_frame.proofs.counters.Counters.later.Goals as goal
+
+pub returns-then-self-gt0 : goal.returns-then-self-gt0
+returns-then-self-gt0 c = λ t at. at_before c.args.plan.now t c.args.self at c.if-self-gt0.true
+
+pub returns-then-self-eq1 : goal.returns-then-self-eq1
+returns-then-self-eq1 c = λ t at. c.next_line.ensures t (omega (arith, c.if-self-gt0.false)) c.if-self-eq1.true at
+
+pub returns-else-self-eq1 : goal.returns-else-self-eq1
+returns-else-self-eq1 c = λ t at. c.in_line.ensures t (omega (arith, c.if-self-gt0.false))
+    (omega (arith, c.if-self-eq1.false, c.requires.until_from)) at

@@ -1,0 +1,4 @@
+pub mod Counters
+pub mod CounterSlots
+pub mod Schedule
+pub mod Units

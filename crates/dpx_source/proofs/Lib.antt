@@ -1,0 +1,13 @@
+pub mod Absorbs
+pub mod ActiveLines
+pub mod Arrived
+pub mod Emits
+pub mod Flow
+pub mod Framings
+pub mod Law
+pub mod News
+pub mod Order
+pub mod Ready
+pub mod Stands
+pub mod Sums
+pub mod Table
