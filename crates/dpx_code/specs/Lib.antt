@@ -1,0 +1,4 @@
+pub mod Back
+pub mod Decode
+pub mod Disparity
+pub mod Track

@@ -1,0 +1,11 @@
+pub mod BadWords
+pub mod BitNumbers
+pub mod Bytes
+pub mod Entries
+pub mod KeyBits
+pub mod KeyBytes
+pub mod Keyeds
+pub mod Keys
+pub mod Receives
+pub mod RowSteps
+pub mod Sends

@@ -1,0 +1,10 @@
+pub mod Codes
+pub mod Reading
+pub mod Receiving
+pub mod Scrambling
+pub mod Sending
+pub mod SymbolTable
+pub mod WordTable
+pub mod Room
+pub mod Rows
+pub mod Team

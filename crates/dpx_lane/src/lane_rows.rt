@@ -1,0 +1,160 @@
+ghost use Rattle.std.specs.Prelude.{◌≡◌, ◌<◌, ◌≤◌, ◌+◌, ◌*◌, ◌%◌, ◌/◌, [], ◌∷◌, ◌++◌};
+ghost use Rattle.std.specs.Prelude.{length, replicate, IfOk, vec_len, vec_capacity};
+ghost use Rattle.dpx_base.specs.Capture.{word_bytes, words_in};
+ghost use Rattle.dpx_base.specs.Lanes.{count_of};
+ghost use Rattle.dpx_lane.specs.Codes.{code_of};
+ghost use Rattle.dpx_lane.specs.Rows.{entry, lane_by_lane, clock_words};
+
+use crate::code_of;
+use crate::words::{put_word, word_of};
+use dpx_base::{LaneSet, Lanes, Memory};
+use std::alloc::Global;
+use std::marker::Model;
+
+const ROOM: usize = 8192;
+
+/// A batch of clocks as one row a lane, lane 0 first: codes of symbols, or words.
+#[derive(Drop)]
+pub struct LaneRows {
+    pub(crate) lanes: Lanes,
+    pub(crate) first: Vec<u16>,
+    pub(crate) second: Vec<u16>,
+    pub(crate) third: Vec<u16>,
+    pub(crate) fourth: Vec<u16>,
+}
+
+impl Model for LaneRows {
+    ghost use Rattle.std.specs.Prelude.{length};
+    ghost use Rattle.dpx_lane.specs.Room.{HasRoom};
+    ghost use Rattle.dpx_lane.specs.Rows.{in_use, RowsFacts};
+
+    ghost Value = { RowsFacts };
+
+    ghost view = { λ r. record { lanes = r.lanes; rows = in_use r.lanes r.first.items r.second.items r.third.items r.fourth.items; clocks = length r.first.items } };
+
+    ghost invariant = { HasRoom };
+}
+
+fn put(row: &mut Vec<u16>, entry: u16)
+    requires { vec_len row.old < vec_capacity row.old }
+    ensures items { row.new.items ≡ row.old.items ++ entry ∷ [] }
+    ensures capacity { vec_capacity row.old ≡ vec_capacity row.new }
+{
+    row.push_reserved(entry);
+}
+
+impl LaneRows {
+    /// Takes room for 8,192 clocks, and holds none.
+    pub fn new(alloc: Global, lanes: Lanes) -> Result<LaneRows, Memory>
+        ensures { IfOk result (λ rows. rows ≡ record { lanes = lanes; rows = replicate (count_of lanes) []; clocks = 0 }) }
+    {
+        Ok(LaneRows {
+            lanes,
+            first: Vec::with_capacity(alloc, ROOM).map_err(|_| Memory)?,
+            second: Vec::with_capacity(alloc, ROOM).map_err(|_| Memory)?,
+            third: Vec::with_capacity(alloc, ROOM).map_err(|_| Memory)?,
+            fourth: Vec::with_capacity(alloc, ROOM).map_err(|_| Memory)?,
+        })
+    }
+
+    pub fn lanes(&self) -> Lanes
+        ensures { result ≡ self.now.lanes }
+    {
+        self.lanes
+    }
+
+    /// The clocks that it holds.
+    pub fn len(&self) -> usize
+        ensures value { result ≡ self.now.clocks }
+        ensures within { result ≤ 8192 }
+    {
+        self.first.len()
+    }
+
+    pub fn clear(&mut self)
+        ensures { self.new ≡ record { lanes = self.old.lanes; rows = replicate (count_of self.old.lanes) []; clocks = 0 } }
+    {
+        self.first.clear();
+        self.second.clear();
+        self.third.clear();
+        self.fourth.clear();
+    }
+
+    /// An entry of a lane's row.
+    pub fn get(&self, lane: u8, clock: usize) -> u16
+        requires lane { lane < count_of self.now.lanes }
+        requires clock { clock < self.now.clocks }
+        ensures { result ≡ entry self.now lane clock }
+    {
+        match lane {
+            0 => self.first[clock],
+            1 => self.second[clock],
+            2 => self.third[clock],
+            _ => self.fourth[clock],
+        }
+    }
+
+    /// Puts the codes of a set behind the rows.
+    pub fn push_set(&mut self, set: &LaneSet)
+        requires room { self.old.clocks < 8192 }
+        requires lanes { length set.now ≡ count_of self.old.lanes }
+        ensures { self.new ≡ record { lanes = self.old.lanes; rows = lane_by_lane (λ row sym. row ++ code_of sym ∷ []) self.old.rows set.now; clocks = self.old.clocks + 1 } }
+    {
+        let first = code_of(set.get(0));
+        let (second, third, fourth) = match self.lanes {
+            Lanes::One => (0, 0, 0),
+            Lanes::Two => (code_of(set.get(1)), 0, 0),
+            Lanes::Four => (
+                code_of(set.get(1)),
+                code_of(set.get(2)),
+                code_of(set.get(3)),
+            ),
+        };
+        put(&mut self.first, first);
+        put(&mut self.second, second);
+        put(&mut self.third, third);
+        put(&mut self.fourth, fourth);
+    }
+
+    /// Puts the words of one clock behind the rows.
+    fn push_words(&mut self, bytes: &[u8])
+        requires room { self.old.clocks < 8192 }
+        requires size { length bytes.now ≡ 2 * count_of self.old.lanes }
+        ensures { self.new ≡ record { lanes = self.old.lanes; rows = lane_by_lane (λ row word. row ++ word ∷ []) self.old.rows (clock_words self.old.lanes bytes.now); clocks = self.old.clocks + 1 } }
+    {
+        let first = word_of(bytes, 0);
+        let (second, third, fourth) = match self.lanes {
+            Lanes::One => (0, 0, 0),
+            Lanes::Two => (word_of(bytes, 1), 0, 0),
+            Lanes::Four => (word_of(bytes, 1), word_of(bytes, 2), word_of(bytes, 3)),
+        };
+        put(&mut self.first, first);
+        put(&mut self.second, second);
+        put(&mut self.third, third);
+        put(&mut self.fourth, fourth);
+    }
+
+    /// Writes the entries in a capture's order: clock by clock, and lane by lane within a clock.
+    pub fn write_words(&self, to: &mut [u8])
+        requires { length to.old ≡ 2 * (count_of self.now.lanes * self.now.clocks) }
+        ensures { to.new ≡ word_bytes (count_of self.now.lanes) self.now.clocks self.now.rows }
+    {
+        let lanes = usize::from(self.lanes.count());
+        for done in 0..lanes * self.len() {
+            put_word(to, 2 * done, self.get((done % lanes) as u8, done / lanes));
+        }
+    }
+
+    /// Replaces what the rows held by the words of these bytes, in a capture's order.
+    pub fn read_words(&mut self, bytes: &[u8])
+        requires whole { length bytes.now % (2 * count_of self.old.lanes) ≡ 0 }
+        requires few { length bytes.now ≤ 2 * count_of self.old.lanes * 8192 }
+        ensures { self.new ≡ record { lanes = self.old.lanes; rows = words_in (count_of self.old.lanes) (length bytes.now / (2 * count_of self.old.lanes)) bytes.now; clocks = length bytes.now / (2 * count_of self.old.lanes) } }
+    {
+        let size = 2 * usize::from(self.lanes.count());
+        self.clear();
+        for done in 0..bytes.len() / size {
+            self.push_words(&bytes[size * done..size * (done + 1)]);
+        }
+    }
+}
