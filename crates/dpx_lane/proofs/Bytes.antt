@@ -9,13 +9,13 @@ use Rattle.std.proofs.lemmas.List.{append-nil, drop-drop, drop_all, length-drop,
 use Rattle.std.proofs.lemmas.List.FromFn.{map-range_with_len_more, length-map-range_with_len}
 use Rattle.dpx_base.specs.Attributes.{two_bytes}
 use Rattle.dpx_base.specs.Capture.{word_at, word_bytes, word_in, words_in}
-use Rattle.dpx_base.specs.Lanes.{count_of}
+use Rattle.dpx_base.specs.Lanes.{lanes_count}
 use Rattle.dpx_base.specs.Words.{words_of}
 use Rattle.dpx_base.specs.declared.lanes.Lanes.{Lanes}
 use Rattle.dpx_base.specs.declared.lanes.Lanes.TheVariants.{One, Two, Four}
 use Rattle.dpx_lane.specs.Rows.{RowsFacts, lane_by_lane, lane_word, clock_words}
 
-pub some_lane : (lanes : Lanes) → 0 < count_of lanes
+pub some_lane : (lanes : Lanes) → 0 < lanes_count lanes
 some_lane One = omega arith
 some_lane Two = omega arith
 some_lane Four = omega arith
@@ -81,10 +81,10 @@ word_from lanes words k n word e h = rw (← e) h
 
 abbrev pub rows_read : Lanes → (bytes : List ℕ) → (clocks : ℕ) → RowsFacts
 rows_read lanes bytes clocks =
-    record { lanes = lanes; rows = words_in (count_of lanes) clocks bytes; clocks = clocks }
+    record { lanes = lanes; rows = words_in (lanes_count lanes) clocks bytes; clocks = clocks }
 
 pub rows_none : (lanes : Lanes) (bytes : List ℕ)
-    → rows_read lanes bytes 0 ≡ record { lanes = lanes; rows = replicate (count_of lanes) []; clocks = 0 }
+    → rows_read lanes bytes 0 ≡ record { lanes = lanes; rows = replicate (lanes_count lanes) []; clocks = 0 }
 unfolding words_in
 rows_none One bytes = refl
 rows_none Two bytes = refl
@@ -124,7 +124,7 @@ piece_word n j done bytes less =
 
 -- a clock more
 pub rows_more : (lanes : Lanes) (bytes piece : List ℕ) (done : ℕ) (before after : RowsFacts)
-    → before ≡ rows_read lanes bytes done → piece ≡ take (2 * count_of lanes) (drop (2 * count_of lanes * done) bytes)
+    → before ≡ rows_read lanes bytes done → piece ≡ take (2 * lanes_count lanes) (drop (2 * lanes_count lanes * done) bytes)
     → after ≡ record {
         lanes = before.lanes;
         rows = lane_by_lane (λ row word. row ++ word ∷ []) before.rows (clock_words before.lanes piece);
@@ -133,7 +133,7 @@ pub rows_more : (lanes : Lanes) (bytes piece : List ℕ) (done : ℕ) (before af
     → after ≡ rows_read lanes bytes (done + 1)
 unfolding words_in
 rows_more lanes bytes piece done before after b p a =
-    let n = count_of lanes in
+    let n = lanes_count lanes in
     let f : ℕ → List ℕ = λ j. map (word_in n bytes j) (range_with_len 0 done) in
     let g : ℕ → ℕ = lane_word piece in
     let h : ℕ → List ℕ = λ j. map (word_in n bytes j) (range_with_len 0 (done + 1)) in
@@ -147,7 +147,7 @@ rows_more lanes bytes piece done before after b p a =
     rw (a, b) (ap (λ rows. record { lanes = lanes; rows = rows; clocks = done + 1 }) all)
 
 pub cleared : (lanes : Lanes) (bytes : List ℕ) (rows : RowsFacts)
-    → rows ≡ record { lanes = lanes; rows = replicate (count_of lanes) []; clocks = 0 } → rows ≡ rows_read rows.lanes bytes 0
+    → rows ≡ record { lanes = lanes; rows = replicate (lanes_count lanes) []; clocks = 0 } → rows ≡ rows_read rows.lanes bytes 0
 cleared lanes bytes rows e = rw e (sym (rows_none lanes bytes))
 
 -- the piece of a clock lies within the bytes

@@ -1,7 +1,7 @@
 -- The rows of the lanes: this project's own.
 use Rattle.std.specs.Prelude.{ℕ, ◌+◌, ◌*◌, List, [], ◌∷◌, map, slice_index, slice_index_or}
 use Rattle.std.specs.List.{range_with_len}
-use Rattle.dpx_base.specs.Lanes.{count_of}
+use Rattle.dpx_base.specs.Lanes.{lanes_count}
 use Rattle.dpx_base.specs.Words.{words_of}
 use Rattle.dpx_base.specs.declared.lanes.Lanes.{Lanes}
 use Rattle.dpx_base.specs.declared.lanes.Lanes.TheVariants.{One, Two, Four}
@@ -32,4 +32,4 @@ abbrev pub lane_word : (bytes : List ℕ) → (lane : ℕ) → ℕ
 lane_word bytes lane = 256 * slice_index bytes (2 * lane) + slice_index bytes (2 * lane + 1)
 
 abbrev pub clock_words : Lanes → (bytes : List ℕ) → List ℕ
-clock_words lanes bytes = map (lane_word bytes) (range_with_len 0 (count_of lanes))
+clock_words lanes bytes = map (lane_word bytes) (range_with_len 0 (lanes_count lanes))

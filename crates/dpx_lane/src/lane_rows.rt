@@ -1,7 +1,7 @@
 ghost use Rattle.std.specs.Prelude.{◌≡◌, ◌<◌, ◌≤◌, ◌+◌, ◌*◌, ◌%◌, ◌/◌, [], ◌∷◌, ◌++◌};
 ghost use Rattle.std.specs.Prelude.{length, replicate, IfOk, vec_len, vec_capacity};
 ghost use Rattle.dpx_base.specs.Capture.{word_bytes, words_in};
-ghost use Rattle.dpx_base.specs.Lanes.{count_of};
+ghost use Rattle.dpx_base.specs.Lanes.{lanes_count};
 ghost use Rattle.dpx_lane.specs.Codes.{code_of};
 ghost use Rattle.dpx_lane.specs.Rows.{entry, lane_by_lane, clock_words};
 
@@ -46,7 +46,7 @@ fn put(row: &mut Vec<u16>, entry: u16)
 impl LaneRows {
     /// Takes room for 8,192 clocks, and holds none.
     pub fn new(alloc: Global, lanes: Lanes) -> Result<LaneRows, Memory>
-        ensures { IfOk result (λ rows. rows ≡ record { lanes = lanes; rows = replicate (count_of lanes) []; clocks = 0 }) }
+        ensures { IfOk result (λ rows. rows ≡ record { lanes = lanes; rows = replicate (lanes_count lanes) []; clocks = 0 }) }
     {
         Ok(LaneRows {
             lanes,
@@ -72,7 +72,7 @@ impl LaneRows {
     }
 
     pub fn clear(&mut self)
-        ensures { self.new ≡ record { lanes = self.old.lanes; rows = replicate (count_of self.old.lanes) []; clocks = 0 } }
+        ensures { self.new ≡ record { lanes = self.old.lanes; rows = replicate (lanes_count self.old.lanes) []; clocks = 0 } }
     {
         self.first.clear();
         self.second.clear();
@@ -82,7 +82,7 @@ impl LaneRows {
 
     /// An entry of a lane's row.
     pub fn get(&self, lane: u8, clock: usize) -> u16
-        requires lane { lane < count_of self.now.lanes }
+        requires lane { lane < lanes_count self.now.lanes }
         requires clock { clock < self.now.clocks }
         ensures { result ≡ entry self.now lane clock }
     {
@@ -97,7 +97,7 @@ impl LaneRows {
     /// Puts the codes of a set behind the rows.
     pub fn push_set(&mut self, set: &LaneSet)
         requires room { self.old.clocks < 8192 }
-        requires lanes { length set.now ≡ count_of self.old.lanes }
+        requires lanes { length set.now ≡ lanes_count self.old.lanes }
         ensures { self.new ≡ record { lanes = self.old.lanes; rows = lane_by_lane (λ row sym. row ++ code_of sym ∷ []) self.old.rows set.now; clocks = self.old.clocks + 1 } }
     {
         let first = code_of(set.get(0));
@@ -119,7 +119,7 @@ impl LaneRows {
     /// Puts the words of one clock behind the rows.
     fn push_words(&mut self, bytes: &[u8])
         requires room { self.old.clocks < 8192 }
-        requires size { length bytes.now ≡ 2 * count_of self.old.lanes }
+        requires size { length bytes.now ≡ 2 * lanes_count self.old.lanes }
         ensures { self.new ≡ record { lanes = self.old.lanes; rows = lane_by_lane (λ row word. row ++ word ∷ []) self.old.rows (clock_words self.old.lanes bytes.now); clocks = self.old.clocks + 1 } }
     {
         let first = word_of(bytes, 0);
@@ -136,8 +136,8 @@ impl LaneRows {
 
     /// Writes the entries in a capture's order: clock by clock, and lane by lane within a clock.
     pub fn write_words(&self, to: &mut [u8])
-        requires { length to.old ≡ 2 * (count_of self.now.lanes * self.now.clocks) }
-        ensures { to.new ≡ word_bytes (count_of self.now.lanes) self.now.clocks self.now.rows }
+        requires { length to.old ≡ 2 * (lanes_count self.now.lanes * self.now.clocks) }
+        ensures { to.new ≡ word_bytes (lanes_count self.now.lanes) self.now.clocks self.now.rows }
     {
         let lanes = usize::from(self.lanes.count());
         for done in 0..lanes * self.len() {
@@ -147,9 +147,9 @@ impl LaneRows {
 
     /// Replaces what the rows held by the words of these bytes, in a capture's order.
     pub fn read_words(&mut self, bytes: &[u8])
-        requires whole { length bytes.now % (2 * count_of self.old.lanes) ≡ 0 }
-        requires few { length bytes.now ≤ 2 * count_of self.old.lanes * 8192 }
-        ensures { self.new ≡ record { lanes = self.old.lanes; rows = words_in (count_of self.old.lanes) (length bytes.now / (2 * count_of self.old.lanes)) bytes.now; clocks = length bytes.now / (2 * count_of self.old.lanes) } }
+        requires whole { length bytes.now % (2 * lanes_count self.old.lanes) ≡ 0 }
+        requires few { length bytes.now ≤ 2 * lanes_count self.old.lanes * 8192 }
+        ensures { self.new ≡ record { lanes = self.old.lanes; rows = words_in (lanes_count self.old.lanes) (length bytes.now / (2 * lanes_count self.old.lanes)) bytes.now; clocks = length bytes.now / (2 * lanes_count self.old.lanes) } }
     {
         let size = 2 * usize::from(self.lanes.count());
         self.clear();

@@ -1,5 +1,5 @@
 ghost use Rattle.std.specs.Prelude.{◌≡◌, ◌<◌, [], Some, replicate, slice_get};
-ghost use Rattle.dpx_base.specs.Lanes.{count_of};
+ghost use Rattle.dpx_base.specs.Lanes.{lanes_count};
 ghost use Rattle.dpx_lane.specs.Team.{EachLane, LanesDo, TeamSent, TeamRead};
 
 use crate::workers::{work, work_first_two, work_four};
@@ -31,7 +31,7 @@ impl LaneTeam<LaneTx> {
     /// Lanes on the way out that took nothing.
     pub fn tx(lanes: Lanes) -> LaneTeam<LaneTx>
         ensures lanes { result.lanes ≡ lanes }
-        ensures nothing { TeamSent 0 result.states (replicate (count_of lanes) []) (replicate (count_of lanes) []) }
+        ensures nothing { TeamSent 0 result.states (replicate (lanes_count lanes) []) (replicate (lanes_count lanes) []) }
     {
         LaneTeam {
             lanes,
@@ -47,7 +47,7 @@ impl LaneTeam<LaneRx> {
     /// Lanes on the way in that took nothing.
     pub fn rx(lanes: Lanes) -> LaneTeam<LaneRx>
         ensures lanes { result.lanes ≡ lanes }
-        ensures nothing { TeamRead result.states (replicate (count_of lanes) []) (replicate (count_of lanes) []) }
+        ensures nothing { TeamRead result.states (replicate (lanes_count lanes) []) (replicate (lanes_count lanes) []) }
     {
         LaneTeam {
             lanes,
@@ -68,7 +68,7 @@ impl<K: LaneWork> LaneTeam<K> {
 
     /// The state of a lane.
     pub fn lane(&self, lane: u8) -> &K
-        requires { lane < count_of self.now.lanes }
+        requires { lane < lanes_count self.now.lanes }
         ensures { slice_get self.now.states lane ≡ Some result.now }
     {
         match lane {
