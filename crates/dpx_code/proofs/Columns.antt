@@ -1,5 +1,6 @@
 -- Each word tells its symbol: a word stands in a column exactly where its candidate does.
-use Rattle.std.proofs.Common.{◌≡◌, ℕ, zero, suc, ◌<◌, ◌-◌, Bool, true, false, cond, ◌&&◌, ◌||◌, ◌==◌, nat_lt, not, List, ◌∷◌, []}
+use Rattle.std.proofs.Common.{◌≡◌, ℕ, zero, suc, ◌<◌, ◌-◌, Bool, true, false, cond, ◌&&◌, ◌||◌, ◌==◌, nat_lt, not, List}
+use Rattle.std.proofs.Common.{◌∷◌, []}
 use Rattle.std.proofs.Common.{refl, subst, arith, rules, below_more}
 use Rattle.std.specs.Bool.{Decides}
 use Rattle.std.proofs.lemmas.Bool.{and_parts, or_left, or_right, ltb-true, eqb-true, eq-eqb}
@@ -13,8 +14,8 @@ use Rattle.dpx_code.specs.Back.{stands, all_below, tells_data, tells_control}
 use Rattle.dpx_code.specs.Decode.{candidate_of}
 
 all_data : (plus : Bool) → all_below 256 (tells_data plus) ≡ true
-unfolding tells_data all_below data_word first_block first_minus first_plus second_block second_minus second_plus takes_a7
-    disparity_after data_of x_of y_of control_of control_among control_words is_candidate_control lib.Count.ones
+unfolding tells_data all_below data_word first_block first_minus first_plus second_block second_minus second_plus
+    takes_a7 disparity_after data_of x_of y_of control_of control_among control_words is_candidate_control lib.Count.ones
 all_data false = refl
 all_data true = refl
 

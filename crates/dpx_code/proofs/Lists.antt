@@ -1,5 +1,6 @@
 -- Lists of symbols and their words.
-use Rattle.std.proofs.Common.{◌≡◌, ℕ, zero, suc, Bool, true, false, if◌then◌else◌, List, [], ◌∷◌, ◌++◌, length, take, map}
+use Rattle.std.proofs.Common.{◌≡◌, ℕ, zero, suc, Bool, true, false, if◌then◌else◌, List, [], ◌∷◌, ◌++◌, length, take}
+use Rattle.std.proofs.Common.{map}
 use Rattle.std.proofs.Common.{refl, sym, ap, subst, ◌∙◌, inl, inr, Some, None}
 use Rattle.std.specs.List.{AllByRecursion}
 use Rattle.dpx_base.specs.Code.{IsSymbol, Codes, Coded, Listed, word_of, next_disparity}
@@ -14,7 +15,8 @@ use Rattle.dpx_code.proofs.Columns.{reads_symbol, stands_there, stands_codes}
 use Rattle.dpx_code.proofs.Tracking.{ends_cons, ends_nil, ends_none}
 
 -- words have one list of symbols
-pub coded_map : (plus : Bool) (ss : List Sym) (ws : List ℕ) (end : Bool) → Coded plus ss ws end → ss ≡ map candidate_of ws
+pub coded_map : (plus : Bool) (ss : List Sym) (ws : List ℕ) (end : Bool) → Coded plus ss ws end
+    → ss ≡ map candidate_of ws
 coded_map plus [] [] end h = refl
 coded_map plus [] (w ∷ ws) end h = absurd h
 coded_map plus (s ∷ ss) [] end h = absurd h
@@ -23,7 +25,8 @@ coded_map plus (s ∷ ss) (w ∷ ws) end h =
     let f = coded_map h.0 ss ws end h.2 in
     cc
 
-pub coded_length : (plus : Bool) (ss : List Sym) (ws : List ℕ) (end : Bool) → Coded plus ss ws end → length ss ≡ length ws
+pub coded_length : (plus : Bool) (ss : List Sym) (ws : List ℕ) (end : Bool) → Coded plus ss ws end
+    → length ss ≡ length ws
 coded_length plus [] [] end h = refl
 coded_length plus [] (w ∷ ws) end h = absurd h
 coded_length plus (s ∷ ss) [] end h = absurd h
@@ -70,7 +73,8 @@ coded_once plus (s ∷ ss) (w ∷ ws) (v ∷ vs) end last h k =
     (cc, rest.1)
 
 -- symbols have words, from each disparity on
-pub coded_there : (plus : Bool) (ss : List Sym) → AllByRecursion IsSymbol ss → (ws : List ℕ) × (end : Bool) × Coded plus ss ws end
+pub coded_there : (plus : Bool) (ss : List Sym) → AllByRecursion IsSymbol ss
+    → (ws : List ℕ) × (end : Bool) × Coded plus ss ws end
 coded_there plus [] h = ([], plus, refl)
 coded_there plus (s ∷ ss) h =
     let w = word_of s.control s.byte plus in

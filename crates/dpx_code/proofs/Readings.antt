@@ -78,11 +78,17 @@ not_elsewhere rd word s e = e.not_here s.plus s.allowed s.stands
 
 pub wrong_column_by : (rd : Rd) (word : ℕ) (m p : Bool) → Told word m p
     → (read_as word rd m p ≡ Err (WrongColumn word rd)) ↔ StandsElsewhere rd word
-wrong_column_by Minus word true p t = (λ h. absurd cc, λ e. absurd (not_elsewhere Minus word (at_minus Minus word p refl t) e))
+wrong_column_by Minus word true p t = (
+  λ h. absurd cc,
+  λ e. absurd (not_elsewhere Minus word (at_minus Minus word p refl t) e),
+)
 wrong_column_by Minus word false true t =
     (λ h. record { plus = true; stands = t.1.0 refl; not_here = only_plus word true t }, λ e. refl)
 wrong_column_by Minus word false false t = (λ h. absurd cc, λ e. absurd (in_neither word t e.plus e.stands))
-wrong_column_by Plus word m true t = (λ h. absurd cc, λ e. absurd (not_elsewhere Plus word (at_plus Plus word m refl t) e))
+wrong_column_by Plus word m true t = (
+  λ h. absurd cc,
+  λ e. absurd (not_elsewhere Plus word (at_plus Plus word m refl t) e),
+)
 wrong_column_by Plus word true false t =
     (λ h. record { plus = false; stands = t.0.0 refl; not_here = only_minus word true t }, λ e. refl)
 wrong_column_by Plus word false false t = (λ h. absurd cc, λ e. absurd (in_neither word t e.plus e.stands))

@@ -1,5 +1,6 @@
 -- No word is 1024 or more.
-use Rattle.std.proofs.Common.{◌≡◌, ℕ, zero, suc, ◌<◌, Bool, true, false, nat_lt, not, ◌||◌, List, [], ◌∷◌, refl, subst, arith, rules}
+use Rattle.std.proofs.Common.{◌≡◌, ℕ, zero, suc, ◌<◌, Bool, true, false, nat_lt, not, ◌||◌, List, [], ◌∷◌, refl, subst}
+use Rattle.std.proofs.Common.{arith, rules}
 use Rattle.std.specs.Prelude.{slice_index_or}
 use Rattle.std.proofs.lemmas.Bool.{ltb-true}
 use Rattle.std.proofs.lemmas.Bool.Decides.{nat_tests}
@@ -17,8 +18,8 @@ unfoldable fits_control : Bool → ℕ → Bool
 fits_control plus byte = not (is_control byte) || nat_lt (control_word byte plus) 1024
 
 all_data : (plus : Bool) → all_below 256 (fits_data plus) ≡ true
-unfolding fits_data all_below data_word first_block first_minus first_plus second_block second_minus second_plus takes_a7
-    disparity_after lib.Count.ones
+unfolding fits_data all_below data_word first_block first_minus first_plus second_block second_minus second_plus
+    takes_a7 disparity_after lib.Count.ones
 all_data true = refl
 all_data false = refl
 

@@ -1,4 +1,5 @@
--- What a word is read as: ANSI X3.230, transmission code. That the first words decide a disparity is this project's own.
+-- What a word is read as: ANSI X3.230, transmission code. That the first words decide a disparity is this project's
+-- own.
 use Rattle.std.specs.Prelude.{ℕ, Bool, true, false, if◌then◌else◌, Result, Ok, Err}
 use Rattle.dpx_base.specs.Code.{StandsIn, next_disparity}
 use Rattle.dpx_base.specs.declared.sym.Sym.{Sym}

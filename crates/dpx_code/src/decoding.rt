@@ -92,9 +92,12 @@ fn read_word(word: u16, rd: Rd) -> Result<(Sym, Rd), CodeBad>
 pub fn decode(word: u16, rd: Rd) -> Result<(Sym, Rd), CodeBad>
     requires { word < 1024 }
     ensures ok { IsOk result ↔ StandsAllowed rd word }
-    ensures symbol { (symbol : Sym) (plus next : Bool) → Allows rd plus → Codes symbol plus word next → IfOk result (λ read. read.0 ≡ symbol) }
-    ensures next { (symbol : Sym) (plus next : Bool) → Allows rd plus → Codes symbol plus word next → IfOk result (λ read. (read.1 ≡ rd_of next) ⊎ (read.1 ≡ Unknown)) }
-    ensures unknown { IfOk result (λ read. (read.1 ≡ Unknown) ↔ ((rd ≡ Unknown) × StandsIn false word × StandsIn true word)) }
+    ensures symbol { (symbol : Sym) (plus next : Bool) → Allows rd plus → Codes symbol plus word next
+        → IfOk result (λ read. read.0 ≡ symbol) }
+    ensures next { (symbol : Sym) (plus next : Bool) → Allows rd plus → Codes symbol plus word next
+        → IfOk result (λ read. (read.1 ≡ rd_of next) ⊎ (read.1 ≡ Unknown)) }
+    ensures unknown { IfOk result (λ read.
+        (read.1 ≡ Unknown) ↔ ((rd ≡ Unknown) × StandsIn false word × StandsIn true word)) }
     ensures not_a_word { (result ≡ Err (NotAWord word)) ↔ ((plus : Bool) → StandsIn plus word → ⊥) }
     ensures wrong_column { (result ≡ Err (WrongColumn word rd)) ↔ StandsElsewhere rd word }
     ensures refusals { IfErr result (λ bad. (bad ≡ NotAWord word) ⊎ (bad ≡ WrongColumn word rd)) }

@@ -1,6 +1,8 @@
 -- A lane's fault is its first bad word, with its reason.
-use Rattle.std.proofs.Common.{◌≡◌, ℕ, suc, ◌<◌, ◌≤◌, ◌+◌, ◌⊎◌, inl, inr, ⊎_elim, Bool, true, false, nat_lt, if◌then◌else◌}
-use Rattle.std.proofs.Common.{List, [], ◌∷◌, ◌++◌, length, take, map, refl, sym, ap, subst, ◌∙◌, arith, append_assoc, length-append}
+use Rattle.std.proofs.Common.{◌≡◌, ℕ, suc, ◌<◌, ◌≤◌, ◌+◌, ◌⊎◌, inl, inr, ⊎_elim, Bool, true, false, nat_lt}
+use Rattle.std.proofs.Common.{if◌then◌else◌}
+use Rattle.std.proofs.Common.{List, [], ◌∷◌, ◌++◌, length, take, map, refl, sym, ap, subst, ◌∙◌, arith, append_assoc}
+use Rattle.std.proofs.Common.{length-append}
 use Rattle.std.proofs.Common.{Option, Some, None, Result, Ok, Err, MatchResult}
 use Rattle.std.specs.Prelude.{slice_index_or, IfErr}
 use Rattle.std.proofs.Math.Seq.{take-append_seam}
@@ -22,7 +24,7 @@ use Rattle.dpx_code.proofs.Readings.{reads_refusal, reads_not_a_word, reads_wron
 use Rattle.dpx_code.proofs.Small.{coded_small}
 use Rattle.dpx_code.proofs.Tracking.{tracked}
 use Rattle.dpx_lane.specs.Reading.{as_word_bad, read_word, IsReason, IsFault}
-use Rattle.dpx_lane.specs.Receiving.{HasRead, FaultBehind, Ends}
+use Rattle.dpx_lane.specs.Receiving.{HasRead, FaultBehind, Ends, IsReading}
 use Rattle.dpx_lane.specs.declared.lane_fault.LaneFault.{LaneFault}
 use Rattle.dpx_lane.specs.declared.lane_fault.WordBad.{WordBad}
 use Rattle.dpx_lane.specs.declared.lane_fault.WordBad.TheVariants.{Value, Code}
@@ -39,14 +41,14 @@ good_word rd good rest t h l b =
     ⊎_elim
     (λ (k : 1024 ≤ slice_index_or (good ++ rest) t 0). let z : ⊥ = omega arith in z)
     (λ (k : Listed (take (t + 1) (good ++ rest)) → ⊥).
-      k (subst (λ (x : List ℕ). Listed x) (sym f) (listed_front (t + 1) r.from symbols good r.end r.code)))
+    k (subst (λ (x : List ℕ). Listed x) (sym f) (listed_front (t + 1) r.from symbols good r.end r.code)))
     b.bad
 
 -- a word that is refused is too large, or no list has it
 stuck_from : (word : ℕ) (good : List ℕ) (x : Result (Sym × Rd) CodeBad) (why : WordBad) → as_word_bad x ≡ Err why
     → MatchResult x
-      (λ read. (read.0 ≡ candidate_of word) × Tracks read.1 (good ++ word ∷ []))
-      (λ bad. Stuck (good ++ word ∷ []))
+    (λ read. (read.0 ≡ candidate_of word) × Tracks read.1 (good ++ word ∷ []))
+    (λ bad. Stuck (good ++ word ∷ []))
     → Stuck (good ++ word ∷ [])
 stuck_from word good (Ok read) why e h = cc
 stuck_from word good (Err bad) why e h = h
@@ -74,10 +76,10 @@ bad_there fault good rest h =
       bad = ⊎_elim
           (λ (k : 1024 ≤ word). inl (subst (λ (n : ℕ). 1024 ≤ n) (sym (word_there fault good rest h)) k))
           (λ (k : Stuck (good ++ word ∷ [])). inr (λ (l : Listed (take (fault.clock + 1) (good ++ rest))).
-            let n : length (good ++ word ∷ []) ≡ fault.clock + 1 =
-              omega (arith, length-append good (word ∷ []), h.clock) in
-            let front = ap (take (fault.clock + 1)) split ∙ take_at (good ++ word ∷ []) h.more (fault.clock + 1) n in
-            stuck_unlisted (good ++ word ∷ []) k (subst (λ (x : List ℕ). Listed x) front l)))
+          let n : length (good ++ word ∷ []) ≡ fault.clock + 1 =
+          omega (arith, length-append good (word ∷ []), h.clock) in
+          let front = ap (take (fault.clock + 1)) split ∙ take_at (good ++ word ∷ []) h.more (fault.clock + 1) n in
+          stuck_unlisted (good ++ word ∷ []) k (subst (λ (x : List ℕ). Listed x) front l)))
           (bad_by word h.rd good fault.why (nat_lt word 1024) refl h.tracks h.reason);
     }
 
@@ -91,17 +93,17 @@ reason_of : (word : ℕ) (rd : Rd) (good : List ℕ) (bad : CodeBad) → word < 
     → decoded word rd ≡ Err bad → IsReason good word (Code bad)
 reason_of word rd good bad l h e = ⊎_elim
     (λ (k : bad ≡ NotAWord word).
-      let none = (reads_not_a_word word rd (decoded word rd) refl).0 (e ∙ ap Err k) in
-      subst (λ b. IsReason good word (Code b)) (sym k) (refl, l, none))
+    let none = (reads_not_a_word word rd (decoded word rd) refl).0 (e ∙ ap Err k) in
+    subst (λ b. IsReason good word (Code b)) (sym k) (refl, l, none))
     (λ (k : bad ≡ WrongColumn word rd).
-      let other = (reads_wrong_column word rd (decoded word rd) refl).0 (e ∙ ap Err k) in
-      let known = known_rd rd word other in
-      let all : (from end : Bool) (symbols : List Sym) → Coded from symbols good end → rd ≡ rd_of end =
-        λ from end symbols c.
-        known.1 ∙ ap rd_of (sym (tracks_end known.0 good (subst (λ r. Tracks r good) known.1 h) from symbols end c)) in
-      subst (λ b. IsReason good word (Code b)) (sym k) (refl, l, other, all))
+    let other = (reads_wrong_column word rd (decoded word rd) refl).0 (e ∙ ap Err k) in
+    let known = known_rd rd word other in
+    let all : (from end : Bool) (symbols : List Sym) → Coded from symbols good end → rd ≡ rd_of end =
+    λ from end symbols c.
+    known.1 ∙ ap rd_of (sym (tracks_end known.0 good (subst (λ r. Tracks r good) known.1 h) from symbols end c)) in
+    subst (λ b. IsReason good word (Code b)) (sym k) (refl, l, other, all))
     (subst (λ x. IfErr x (λ b. (b ≡ NotAWord word) ⊎ (b ≡ WrongColumn word rd))) e
-      (reads_refusal word rd (decoded word rd) refl))
+    (reads_refusal word rd (decoded word rd) refl))
 
 code_reason : (word : ℕ) (rd : Rd) (good : List ℕ) (x : Result (Sym × Rd) CodeBad) (why : WordBad)
     → decoded word rd ≡ x → word < 1024 → Tracks rd good → as_word_bad x ≡ Err why → IsReason good word why
@@ -122,7 +124,7 @@ reason_there : (fault : LaneFault) (good rest : List ℕ) → FaultBehind fault 
     → IsReason (take fault.clock (good ++ rest)) (slice_index_or (good ++ rest) fault.clock 0) fault.why
 reason_there fault good rest h =
     let front : take fault.clock (good ++ rest) ≡ good =
-      ap (λ n. take n (good ++ rest)) h.clock ∙ take-append_seam good rest in
+    ap (λ n. take n (good ++ rest)) h.clock ∙ take-append_seam good rest in
     subst (λ xs. IsReason xs (slice_index_or (good ++ rest) fault.clock 0) fault.why) (sym front)
     (subst (λ w. IsReason good w fault.why) (sym (word_there fault good rest h))
     (reason_by h.word h.rd good fault.why (nat_lt h.word 1024) refl h.tracks h.reason))
@@ -141,7 +143,8 @@ fault_by rd good rest (Some fault) h e = (
 
 pub fault_is : (lane : LaneRx) (words left : List ℕ) → HasRead lane words left → IsFault words lane.fault
 fault_is lane words left h =
-    subst (λ (x : List ℕ). IsFault x lane.fault) (sym h.words_are) (fault_by lane.rd h.good h.rest lane.fault h.tracks h.end)
+    subst (λ (x : List ℕ). IsFault x lane.fault) (sym h.words_are)
+    (fault_by lane.rd h.good h.rest lane.fault h.tracks h.end)
 
 -- what the words say that were read
 pub symbols_read : (rd : Rd) (good : List ℕ) (plain : List Sym) → Tracks rd good
@@ -149,3 +152,28 @@ pub symbols_read : (rd : Rd) (good : List ℕ) (plain : List Sym) → Tracks rd 
 symbols_read rd good plain h k =
     let r = runs rd good h in
     record { from = r.from; coded = map candidate_of good; end = r.end; code = r.code; key = k }
+
+cut_at : (fault : Option LaneFault) (good rest : List ℕ) → Ends fault good rest
+    → (found : LaneFault) → fault ≡ Some found → length good ≡ found.clock
+cut_at None good rest e found is = cc
+cut_at (Some fault) good rest e found is =
+    let same : fault ≡ found = cc in
+    sym (ap (λ f. f.clock) (sym same) ∙ e.clock)
+
+whole_if : (fault : Option LaneFault) (good rest : List ℕ) → Ends fault good rest → fault ≡ None → rest ≡ []
+whole_if None good rest e is = e
+whole_if (Some fault) good rest e is = cc
+
+pub is_reading : (lane : LaneRx) (words left : List ℕ) → HasRead lane words left → IsReading words left lane.fault
+is_reading lane words left h = record {
+  good = h.good;
+  rest = h.rest;
+  plain = h.plain;
+  words_are = h.words_are;
+  left_is = h.left_is;
+  back = h.back;
+  symbols = symbols_read lane.rd h.good h.plain h.tracks h.key;
+  is_fault = fault_is lane words left h;
+  whole = whole_if lane.fault h.good h.rest h.end;
+  cut = cut_at lane.fault h.good h.rest h.end;
+}

@@ -1,5 +1,6 @@
 -- Lists of bits as numbers, the lowest first.
-use Rattle.std.proofs.Common.{◌≡◌, ℕ, zero, suc, ◌<◌, ◌≤◌, ◌+◌, ◌*◌, ◌%◌, ◌^◌, List, [], ◌∷◌, length, get_or, take, drop}
+use Rattle.std.proofs.Common.{◌≡◌, ℕ, zero, suc, ◌<◌, ◌≤◌, ◌+◌, ◌*◌, ◌%◌, ◌^◌, List, [], ◌∷◌, length, get_or, take}
+use Rattle.std.proofs.Common.{drop}
 use Rattle.std.proofs.Common.{refl, ap, arith, ◌∙◌}
 use Rattle.std.proofs.Math.Nat.{pow-suc, mul_comm, mul_right_comm}
 use Rattle.std.specs.Int.Bits.{bit_xor, xor_zero_l, xor_zero_r, xor_block}
@@ -39,7 +40,7 @@ split (suc k) [] h = record {
 split (suc k) (x ∷ xs) h =
     let rest = split k xs h.1 in
     let e : 2 ^ suc k * low_first (drop k xs) ≡ 2 * (2 ^ k * low_first (drop k xs)) =
-      ap (λ p. p * low_first (drop k xs)) (pow-suc 2 k) ∙ times_two (2 ^ k) (low_first (drop k xs)) in
+    ap (λ p. p * low_first (drop k xs)) (pow-suc 2 k) ∙ times_two (2 ^ k) (low_first (drop k xs)) in
     record {
       sum = omega (arith, rest.sum, e);
       below = omega (arith, rest.below, pow-suc 2 k, h.0);

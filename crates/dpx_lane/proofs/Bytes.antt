@@ -1,5 +1,6 @@
 -- Rows as bytes, word by word; and bytes as rows, clock by clock.
-use Rattle.std.proofs.Common.{◌≡◌, ◌≤◌, ◌<◌, ℕ, zero, suc, ◌+◌, ◌-◌, ◌*◌, ◌/◌, ◌%◌, List, [], ◌∷◌, ◌++◌, length, take, drop, map}
+use Rattle.std.proofs.Common.{◌≡◌, ◌≤◌, ◌<◌, ℕ, zero, suc, ◌+◌, ◌-◌, ◌*◌, ◌/◌, ◌%◌, List, [], ◌∷◌, ◌++◌, length, take}
+use Rattle.std.proofs.Common.{drop, map}
 use Rattle.std.proofs.Common.{get_or, replicate, refl, sym, ap, ◌∙◌, arith, append_assoc, length-append, length-take}
 use Rattle.std.specs.List.{range_with_len, flat_map}
 use Rattle.std.proofs.Math.Nat.{le-div_iff_mul-le, le_of_mul-le-mul_left}
@@ -56,11 +57,11 @@ put_next lanes words k word old new all before is put =
     let size : length front ≡ 2 * k = bytes_length lanes words k in
     let t : take (2 * k) old ≡ front = rw (before, ← size) (take-append_seam front (drop (length front) all)) in
     let d : drop (2 * k + 2) old ≡ drop 2 (drop (2 * k) all) =
-      rw (before, ← size) (drop-append-add front (drop (length front) all) 2) in
+    rw (before, ← size) (drop-append-add front (drop (length front) all) 2) in
     let e : drop 2 (drop (2 * k) all) ≡ drop (2 * (k + 1)) all =
-      drop-drop 2 (2 * k) all ∙ ap (λ n. drop n all) {x = 2 * k + 2} {y = 2 * (k + 1)} (omega arith) in
+    drop-drop 2 (2 * k) all ∙ ap (λ n. drop n all) {x = 2 * k + 2} {y = 2 * (k + 1)} (omega arith) in
     let b : bytes_to lanes words (k + 1) ≡ front ++ two_bytes word =
-      bytes_more lanes words k ∙ ap (λ w. front ++ two_bytes w) (sym is) in
+    bytes_more lanes words k ∙ ap (λ w. front ++ two_bytes w) (sym is) in
     rw (b, put, t, d, e) (sym (append_assoc front (two_bytes word) (drop (2 * (k + 1)) all)))
 
 pub all_put : (lanes clocks : ℕ) (words : List (List ℕ)) (n : ℕ) (to all : List ℕ) → n ≡ lanes * clocks
@@ -99,10 +100,11 @@ same_map : {X : Type 0} (f g : ℕ → X) (s n : ℕ) → ((i : ℕ) → i < n �
     → map f (range_with_len s n) ≡ map g (range_with_len s n)
 same_map f g s zero h = refl
 same_map f g s (suc n) h =
-    let e : f s ≡ g s = ap f {x = s} {y = s + 0} (omega arith) ∙ (h 0 (omega arith) ∙ ap g {x = s + 0} {y = s} (omega arith)) in
+    let e : f s ≡ g s = ap f {x = s} {y = s + 0} (omega arith)
+    ∙ (h 0 (omega arith) ∙ ap g {x = s + 0} {y = s} (omega arith)) in
     let rest = same_map f g (s + 1) n (λ i less.
-      ap f {x = s + 1 + i} {y = s + (i + 1)} (omega arith)
-      ∙ (h (i + 1) (omega arith) ∙ ap g {x = s + (i + 1)} {y = s + 1 + i} (omega arith))) in
+    ap f {x = s + 1 + i} {y = s + (i + 1)} (omega arith)
+    ∙ (h (i + 1) (omega arith) ∙ ap g {x = s + (i + 1)} {y = s + 1 + i} (omega arith))) in
     ap (λ l. f s ∷ l) rest ∙ ap (λ x. x ∷ map g (range_with_len (s + 1) n)) e
 
 -- a byte of a clock's bytes
@@ -115,21 +117,21 @@ piece_word : (n j done : ℕ) (bytes : List ℕ) → j < n
     → lane_word (take (2 * n) (drop (2 * n * done) bytes)) j ≡ word_in n bytes j done
 piece_word n j done bytes less =
     let at : (k : ℕ) → get_or bytes (2 * n * done + (2 * j + k)) 0 ≡ get_or bytes (2 * (n * done + j) + k) 0 =
-      λ k. ap (λ i. get_or bytes i 0) {x = 2 * n * done + (2 * j + k)} {y = 2 * (n * done + j) + k} (omega arith) in
+    λ k. ap (λ i. get_or bytes i 0) {x = 2 * n * done + (2 * j + k)} {y = 2 * (n * done + j) + k} (omega arith) in
     let high = piece_byte n done (2 * j) bytes (omega (arith, less)) in
     let low = piece_byte n done (2 * j + 1) bytes (omega (arith, less)) in
     let first : get_or bytes (2 * n * done + 2 * j) 0 ≡ get_or bytes (2 * (n * done + j)) 0 =
-      ap (λ i. get_or bytes i 0) {x = 2 * n * done + 2 * j} {y = 2 * (n * done + j)} (omega arith) in
+    ap (λ i. get_or bytes i 0) {x = 2 * n * done + 2 * j} {y = 2 * (n * done + j)} (omega arith) in
     omega (arith, high, low, first, at 1)
 
 -- a clock more
 pub rows_more : (lanes : Lanes) (bytes piece : List ℕ) (done : ℕ) (before after : RowsFacts)
     → before ≡ rows_read lanes bytes done → piece ≡ take (2 * lanes_count lanes) (drop (2 * lanes_count lanes * done) bytes)
     → after ≡ record {
-        lanes = before.lanes;
-        rows = lane_by_lane (λ row word. row ++ word ∷ []) before.rows (clock_words before.lanes piece);
-        clocks = before.clocks + 1;
-      }
+      lanes = before.lanes;
+      rows = lane_by_lane (λ row word. row ++ word ∷ []) before.rows (clock_words before.lanes piece);
+      clocks = before.clocks + 1;
+    }
     → after ≡ rows_read lanes bytes (done + 1)
 unfolding words_in
 rows_more lanes bytes piece done before after b p a =
@@ -138,16 +140,17 @@ rows_more lanes bytes piece done before after b p a =
     let g : ℕ → ℕ = lane_word piece in
     let h : ℕ → List ℕ = λ j. map (word_in n bytes j) (range_with_len 0 (done + 1)) in
     let one : (j : ℕ) → j < n → f j ++ g j ∷ [] ≡ h j = λ j less.
-      ap (λ w. f j ++ w ∷ []) (ap (λ l. lane_word l j) p ∙ piece_word n j done bytes less)
-      ∙ sym (map-range_with_len_more (word_in n bytes j) 0 done done (omega arith)) in
+    ap (λ w. f j ++ w ∷ []) (ap (λ l. lane_word l j) p ∙ piece_word n j done bytes less)
+    ∙ sym (map-range_with_len_more (word_in n bytes j) 0 done done (omega arith)) in
     let all : lane_by_lane (λ row word. row ++ word ∷ []) (map f (range_with_len 0 n)) (map g (range_with_len 0 n))
-        ≡ map h (range_with_len 0 n) =
-      by_lane f g (range_with_len 0 n)
-      ∙ same_map (λ j. f j ++ g j ∷ []) h 0 n (λ i less. one (0 + i) (omega (arith, less))) in
+    ≡ map h (range_with_len 0 n) =
+    by_lane f g (range_with_len 0 n)
+    ∙ same_map (λ j. f j ++ g j ∷ []) h 0 n (λ i less. one (0 + i) (omega (arith, less))) in
     rw (a, b) (ap (λ rows. record { lanes = lanes; rows = rows; clocks = done + 1 }) all)
 
 pub cleared : (lanes : Lanes) (bytes : List ℕ) (rows : RowsFacts)
-    → rows ≡ record { lanes = lanes; rows = replicate (lanes_count lanes) []; clocks = 0 } → rows ≡ rows_read rows.lanes bytes 0
+    → rows ≡ record { lanes = lanes; rows = replicate (lanes_count lanes) []; clocks = 0 }
+    → rows ≡ rows_read rows.lanes bytes 0
 cleared lanes bytes rows e = rw e (sym (rows_none lanes bytes))
 
 -- the piece of a clock lies within the bytes
@@ -169,4 +172,9 @@ piece_is n m done bytes e =
 pub piece_long : (m done : ℕ) (bytes : List ℕ) → 2 * m * (done + 1) ≤ length bytes
     → length (take (2 * m * (done + 1) - 2 * m * done) (drop (2 * m * done) bytes)) ≡ 2 * m
 piece_long m done bytes h =
-    omega (arith, h, length-take (2 * m * (done + 1) - 2 * m * done) (drop (2 * m * done) bytes), length-drop (2 * m * done) bytes)
+    omega (
+      arith,
+      h,
+      length-take (2 * m * (done + 1) - 2 * m * done) (drop (2 * m * done) bytes),
+      length-drop (2 * m * done) bytes,
+    )

@@ -22,8 +22,10 @@ pub entry_there : (entries : List ℕ) (code : ℕ) (plus : Bool) (at : ℕ) →
     → Codes (symbol_of code) plus (slice_index entries at % 1024) (nat_le 1024 (slice_index entries at))
 unfolding IsEntryAt IsEntry
 entry_there entries code plus at h below e f g =
-    subst (λ (p : Bool). Codes (symbol_of code) p (slice_index entries at % 1024) (nat_le 1024 (slice_index entries at))) f
-    (subst (λ (k : ℕ). Codes (symbol_of k) (nat_le 512 at) (slice_index entries at % 1024) (nat_le 1024 (slice_index entries at))) e
+    subst (λ (p : Bool). Codes (symbol_of code) p (slice_index entries at % 1024)
+    (nat_le 1024 (slice_index entries at))) f
+    (subst (λ (k : ℕ). Codes (symbol_of k) (nat_le 512 at) (slice_index entries at % 1024)
+    (nat_le 1024 (slice_index entries at))) e
     (h.1 at below (subst (λ (k : ℕ). IsTrue (is_code k)) (sym e) g)))
 
 -- what an entry says that is no refusal

@@ -1,6 +1,8 @@
 -- The key's bits.
-use Rattle.std.proofs.Common.{◌≡◌, ℕ, zero, suc, ◌<◌, ◌≤◌, ◌+◌, ◌%◌, List, [], ◌∷◌, ◌++◌, length, get_or, map, take, drop}
-use Rattle.std.proofs.Common.{refl, sym, ap, ◌∙◌, arith, rules, append_assoc, append-nil, length-append, add-suc, add-zero}
+use Rattle.std.proofs.Common.{◌≡◌, ℕ, zero, suc, ◌<◌, ◌≤◌, ◌+◌, ◌%◌, List, [], ◌∷◌, ◌++◌, length, get_or, map, take}
+use Rattle.std.proofs.Common.{drop}
+use Rattle.std.proofs.Common.{refl, sym, ap, ◌∙◌, arith, rules, append_assoc, append-nil, length-append, add-suc}
+use Rattle.std.proofs.Common.{add-zero}
 use Rattle.std.specs.List.{range_with_len}
 use Rattle.std.proofs.lemmas.List.{get_or_append_left, get_or-drop, drop-append-le, length-drop}
 use Rattle.std.proofs.lemmas.List.FromFn.{map-range_with_len_more}
@@ -42,11 +44,12 @@ key_ahead n (suc j) l =
     let new = map (bits_from n) (range_with_len 0 j) in
     let x = bit_sum (n + j) (key_bits n) in
     let s : bit_sum (n + j) (key_bits (n + j)) ≡ x =
-      ap (bit_sum (n + j)) there ∙ same_sum (n + j) (key_bits n) new (omega (arith, key_length n)) in
+    ap (bit_sum (n + j)) there ∙ same_sum (n + j) (key_bits n) new (omega (arith, key_length n)) in
     let one : List ℕ → List ℕ = λ xs. xs ++ bit_sum (n + j) (key_bits (n + j)) ∷ [] in
     let two : ℕ → List ℕ = λ b. (key_bits n ++ new) ++ b ∷ [] in
     let m : map (bits_from n) (range_with_len 0 (suc j)) ≡ new ++ x ∷ [] =
-      ap (λ k. map (bits_from n) (range_with_len 0 k)) {x = suc j} {y = j + 1} (omega arith) ∙ map-range_with_len_more (bits_from n) 0 j j (omega arith) in
+    ap (λ k. map (bits_from n) (range_with_len 0 k)) {x = suc j} {y = j + 1} (omega arith)
+    ∙ map-range_with_len_more (bits_from n) 0 j j (omega arith) in
     rw add-suc
     (ap one there
     ∙ (ap two s

@@ -1,14 +1,17 @@
 -- Eight bits of the key at once, as the register makes them.
-use Rattle.std.proofs.Common.{◌≡◌, ℕ, zero, suc, ◌<◌, ◌≤◌, ◌+◌, ◌*◌, ◌/◌, ◌%◌, ◌^◌, List, [], ◌∷◌, ◌++◌, length, get_or, map, take, drop}
+use Rattle.std.proofs.Common.{◌≡◌, ℕ, zero, suc, ◌<◌, ◌≤◌, ◌+◌, ◌*◌, ◌/◌, ◌%◌, ◌^◌, List, [], ◌∷◌, ◌++◌, length, get_or}
+use Rattle.std.proofs.Common.{map, take, drop}
 use Rattle.std.proofs.Common.{refl, sym, ap, ◌∙◌, arith, length-append}
 use Rattle.std.specs.Int.Bits.{bit_xor}
 use Rattle.std.specs.List.{range_with_len}
 use Rattle.std.proofs.Math.Seq.{take-append_seam, drop-append_seam}
-use Rattle.std.proofs.lemmas.List.{get_or-drop, drop-append-le, drop-drop, length-drop, length-take, get_or-take, ext_get_or}
+use Rattle.std.proofs.lemmas.List.{get_or-drop, drop-append-le, drop-drop, length-drop, length-take, get_or-take}
+use Rattle.std.proofs.lemmas.List.{ext_get_or}
 use Rattle.std.proofs.lemmas.List.FromFn.{get_or-map-range_with_len, length-map-range_with_len}
 use Rattle.dpx_base.specs.Key.{key_bits, low_first}
 use Rattle.dpx_lane.specs.Scrambling.{key_register}
-use Rattle.dpx_lane.proofs.BitNumbers.{AreBits, Split, split, xor_lists, xor_bits, xor_at, xor_length, xor_numbers, bits_drop}
+use Rattle.dpx_lane.proofs.BitNumbers.{AreBits, Split, split, xor_lists, xor_bits, xor_at, xor_length, xor_numbers}
+use Rattle.dpx_lane.proofs.BitNumbers.{bits_drop}
 use Rattle.dpx_lane.proofs.KeyBits.{key_length, key_are_bits, key_ahead, bits_from}
 
 pub seed : key_register 0 ≡ 0x17ff
@@ -17,8 +20,10 @@ seed = refl
 
 -- the parts of a list that is put together
 parts : (k : ℕ) (xs ys : List ℕ) → length xs ≡ k → (take k (xs ++ ys) ≡ xs) × (drop k (xs ++ ys) ≡ ys)
-parts k xs ys e =
-    (ap (λ n. take n (xs ++ ys)) (sym e) ∙ take-append_seam xs ys, ap (λ n. drop n (xs ++ ys)) (sym e) ∙ drop-append_seam xs ys)
+parts k xs ys e = (
+  ap (λ n. take n (xs ++ ys)) (sym e) ∙ take-append_seam xs ys,
+  ap (λ n. drop n (xs ++ ys)) (sym e) ∙ drop-append_seam xs ys,
+)
 
 abbrev mixed : List ℕ → List ℕ
 mixed w = xor_lists (xor_lists (xor_lists w (drop 3 w)) (drop 4 w)) (drop 5 w)
@@ -36,14 +41,15 @@ mixed_at w i h =
     let b = xor_at (xor_lists w (drop 3 w)) (drop 4 w) i x1 h4 in
     let c = xor_at (xor_lists (xor_lists w (drop 3 w)) (drop 4 w)) (drop 5 w) i x2 h5 in
     let later : (k : ℕ) → get_or (drop k w) i 0 ≡ get_or w (i + k) 0 =
-      λ k. get_or-drop k w i 0 ∙ ap (λ n. get_or w n 0) {x = k + i} {y = i + k} (omega arith) in
+    λ k. get_or-drop k w i 0 ∙ ap (λ n. get_or w n 0) {x = k + i} {y = i + k} (omega arith) in
     omega (arith, a, b, c, later 3, later 4, later 5)
 
 mixed_length : (w : List ℕ) → length (mixed w) ≡ length w
 mixed_length w =
     let x1 = xor_length w (drop 3 w) (omega (arith, length-drop 3 w)) in
     let x2 = xor_length (xor_lists w (drop 3 w)) (drop 4 w) (omega (arith, x1, length-drop 4 w)) in
-    xor_length (xor_lists (xor_lists w (drop 3 w)) (drop 4 w)) (drop 5 w) (omega (arith, x1, x2, length-drop 5 w)) ∙ (x2 ∙ x1)
+    xor_length (xor_lists (xor_lists w (drop 3 w)) (drop 4 w)) (drop 5 w) (omega (arith, x1, x2, length-drop 5 w))
+    ∙ (x2 ∙ x1)
 
 -- what a register of these bits mixes
 mixed_number : (w : List ℕ) → AreBits w → (r : ℕ) → r ≡ low_first w
@@ -72,7 +78,7 @@ mixed_bits w h =
     let h5 = bits_drop 5 w h in
     let x1 = xor_bits w (drop 3 w) h h3 in
     xor_bits (xor_lists (xor_lists w (drop 3 w)) (drop 4 w)) (drop 5 w)
-      (xor_bits (xor_lists w (drop 3 w)) (drop 4 w) x1 h4) h5
+    (xor_bits (xor_lists w (drop 3 w)) (drop 4 w) x1 h4) h5
 
 -- the sixteen bits of the key from bit n on
 abbrev window : ℕ → List ℕ
@@ -93,7 +99,7 @@ new_at n i l =
     let w = window n in
     let key : (k : ℕ) → get_or w k 0 ≡ get_or (key_bits n) (n + k) 0 = λ k. get_or-drop n (key_bits n) k 0 in
     let at : (k : ℕ) → get_or (key_bits n) (n + (i + k)) 0 ≡ get_or (key_bits n) (n + i + k) 0 =
-      λ k. ap (λ m. get_or (key_bits n) m 0) {x = n + (i + k)} {y = n + i + k} (omega arith) in
+    λ k. ap (λ m. get_or (key_bits n) m 0) {x = n + (i + k)} {y = n + i + k} (omega arith) in
     let a = get_or-map-range_with_len (bits_from n) 0 8 i i 0 l (omega arith) in
     let b = mixed_at w i (window_bits n) in
     let c = get_or-take 8 (mixed w) i 0 l in
@@ -141,8 +147,8 @@ register_ahead n r e =
     let p = parts 8 old new size in
     let u = split 8 (old ++ new) (join_bits old new (bits_drop 8 w h) (take_bits 8 m (mixed_bits w h))) in
     let f : low_first (old ++ new) ≡ low_first old + 2 ^ 8 * low_first new =
-      u.sum ∙ (ap (λ xs. low_first xs + 2 ^ 8 * low_first (drop 8 (old ++ new))) p.0
-      ∙ ap (λ xs. low_first old + 2 ^ 8 * low_first xs) p.1) in
+    u.sum ∙ (ap (λ xs. low_first xs + 2 ^ 8 * low_first (drop 8 (old ++ new))) p.0
+    ∙ ap (λ xs. low_first old + 2 ^ 8 * low_first xs) p.1) in
     let g : low_first (window (n + 8)) ≡ low_first (old ++ new) =
-      ap low_first (window_ahead n) ∙ ap (λ xs. low_first (old ++ xs)) (new_is n) in
+    ap low_first (window_ahead n) ∙ ap (λ xs. low_first (old ++ xs)) (new_is n) in
     rw x (omega (arith, low, high, f, g, e))

@@ -1,9 +1,14 @@
 -- Rows with the key on them.
 use Rattle.std.proofs.Common.{◌≡◌, ℕ, zero, suc, ◌<◌, ◌≤◌, ◌+◌, Bool, if◌then◌else◌, List, [], ◌∷◌, ◌++◌, length, take}
+use Rattle.std.proofs.Common.{map}
 use Rattle.std.proofs.Common.{refl, sym, ap, subst, ◌∙◌, arith, add-one, inl, inr, length-append, ⊎_elim}
 use Rattle.std.specs.Prelude.{slice_index_or}
+use Rattle.std.specs.List.{range_with_len}
 use Rattle.std.proofs.lemmas.Bool.{cases_lt}
-use Rattle.std.proofs.lemmas.List.{take_more, take_all, take-append-le, get_or_append_left, get_or_push, length_push, ext_get_or}
+use Rattle.std.proofs.lemmas.List.{get_or_default}
+use Rattle.std.proofs.lemmas.List.FromFn.{get_or-map-range_with_len, length-map-range_with_len}
+use Rattle.std.proofs.lemmas.List.{take_more, take_all, take-append-le, get_or_append_left, get_or_push, length_push}
+use Rattle.std.proofs.lemmas.List.{ext_get_or}
 use Rattle.std.proofs.lemmas.List.{take-take, get_or-take, length-take-le}
 use Rattle.std.proofs.Math.Seq.{take-append_seam}
 use Rattle.dpx_base.specs.Key.{is_reset, since_reset, scrambled, Keyed}
@@ -23,16 +28,17 @@ keyed_more row keyed s h =
       size = omega (arith, h.size, length_push keyed last, length_push row s);
       at = λ k d l. ⊎_elim
           (λ (i : k < length row).
-            let a = get_or_append_left keyed (last ∷ []) d k (omega (arith, h.size, i)) in
-            let b = get_or_append_left row (s ∷ []) d k i in
-            let c = take-append-le k row (s ∷ []) (omega (arith, i)) in
-            rw (a, b, c) (h.at k d i))
+          let a = get_or_append_left keyed (last ∷ []) d k (omega (arith, h.size, i)) in
+          let b = get_or_append_left row (s ∷ []) d k i in
+          let c = take-append-le k row (s ∷ []) (omega (arith, i)) in
+          rw (a, b, c) (h.at k d i))
           (λ (i : length row ≤ k).
-            let e : length row ≡ k = omega (arith, i, l, length_push row s) in
-            let a = get_or_push keyed last d k (h.size ∙ e) in
-            let b = get_or_push row s d k e in
-            let c : take k (row ++ s ∷ []) ≡ row = ap (λ n. take n (row ++ s ∷ [])) (sym e) ∙ take-append_seam row (s ∷ []) in
-            rw (a, b, c) refl)
+          let e : length row ≡ k = omega (arith, i, l, length_push row s) in
+          let a = get_or_push keyed last d k (h.size ∙ e) in
+          let b = get_or_push row s d k e in
+          let c : take k (row ++ s ∷ []) ≡ row =
+          ap (λ n. take n (row ++ s ∷ [])) (sym e) ∙ take-append_seam row (s ∷ []) in
+          rw (a, b, c) refl)
           (cases_lt k (length row));
     }
 
@@ -45,7 +51,8 @@ keyed_once row a b h k =
     h.at i fill j ∙ sym (k.at i fill j))
 
 since_next : (row : List Sym) (k : ℕ) → k < length row
-    → since_reset (take (k + 1) row) ≡ (if is_reset (slice_index_or row k fill) then 0 else since_reset (take k row) + 1)
+    → since_reset (take (k + 1) row) ≡ (if is_reset (slice_index_or row k fill) then 0 else since_reset
+    (take k row) + 1)
 since_next row k l = ap since_reset (take_more row k fill l) ∙ since_more (take k row) (slice_index_or row k fill)
 
 -- with the key on them, symbols are as far from their last reset
@@ -57,14 +64,15 @@ same_since row keyed h (suc k) l =
     let j : k < length keyed = omega (arith, h.size) in
     let s = slice_index_or row k fill in
     let m = since_reset (take k row) in
-    let e : is_reset (slice_index_or keyed k fill) ≡ is_reset s = ap is_reset (h.at k fill i) ∙ reset_kept m s.control s.byte in
+    let e : is_reset (slice_index_or keyed k fill) ≡ is_reset s =
+    ap is_reset (h.at k fill i) ∙ reset_kept m s.control s.byte in
     let f = same_since row keyed h k (omega arith) in
     let next : Bool → ℕ → ℕ = λ r n. if r then 0 else n + 1 in
     let g : since_reset (take (k + 1) keyed) ≡ since_reset (take (k + 1) row) =
-      since_next keyed k j
-      ∙ (ap (λ (r : Bool). next r (since_reset (take k keyed))) e
-      ∙ (ap (next (is_reset s)) f
-      ∙ sym (since_next row k i))) in
+    since_next keyed k j
+    ∙ (ap (λ (r : Bool). next r (since_reset (take k keyed))) e
+    ∙ (ap (next (is_reset s)) f
+    ∙ sym (since_next row k i))) in
     subst (λ (n : ℕ). since_reset (take n keyed) ≡ since_reset (take n row)) (add-one k) g
 
 -- the key twice gives the row back
@@ -91,3 +99,18 @@ keyed_front n row keyed l h = record {
       let c = take-take k n row (omega (arith, j)) in
       rw (a, b, c) (h.at k d (omega (arith, j, l)));
 }
+
+-- each row has one
+pub keyed_there : (row : List Sym) → (keyed : List Sym) × Keyed row keyed
+keyed_there row =
+    let at : ℕ → Sym = λ k. scrambled (since_reset (take k row)) (slice_index_or row k fill) in
+    let n = length row in
+    let keyed = map at (range_with_len 0 n) in (
+      keyed,
+      record {
+        size = length-map-range_with_len at 0 n;
+        at = λ k d l.
+            let e : slice_index_or row k fill ≡ slice_index_or row k d = get_or_default row k fill d l in
+            get_or-map-range_with_len at 0 n k k d l (omega arith) ∙ ap (scrambled (since_reset (take k row))) e;
+      },
+    )

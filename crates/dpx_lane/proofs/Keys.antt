@@ -28,7 +28,8 @@ pub since_more : (ss : List Sym) (s : Sym)
     → since_reset (ss ++ s ∷ []) ≡ (if is_reset s then 0 else since_reset ss + 1)
 unfolding since_reset
 since_more ss s =
-    ap (λ xs. length (take_while goes_on xs)) {x = reverse (ss ++ s ∷ [])} {y = s ∷ reverse ss} (reverse-append ss (s ∷ []))
+    ap (λ xs. length (take_while goes_on xs)) {x = reverse (ss ++ s ∷ [])} {y = s ∷ reverse ss}
+    (reverse-append ss (s ∷ []))
     ∙ since_by s (reverse ss) (is_reset s) refl
 
 pub since_none : since_reset [] ≡ 0
@@ -65,6 +66,7 @@ scrambled_twice m false byte =
     ap f (same_byte byte (key_byte m))
 
 pub reset_kept : (m : ℕ) (control : Bool) (byte : ℕ)
-    → is_reset (scrambled m (record { control = control; byte = byte })) ≡ is_reset (record { control = control; byte = byte })
+    → is_reset (scrambled m (record { control = control; byte = byte }))
+    ≡ is_reset (record { control = control; byte = byte })
 reset_kept m true byte = refl
 reset_kept m false byte = refl

@@ -58,12 +58,12 @@ good_more old new word out symbol plain words left none same read takes key code
     let m = subst (λ x. Tracked good word x) both.1 (tracked old.rd good word both.0 h.tracks) in
     let a : words ≡ good = h.words_are ∙ (ap (λ (x : List ℕ). good ++ x) rest_none ∙ append-nil good) in
     let b : left ≡ map code_of h.plain =
-      h.left_is ∙ (ap (λ (x : List ℕ). map code_of h.plain ++ x) rest_none ∙ append-nil (map code_of h.plain)) in
+    h.left_is ∙ (ap (λ (x : List ℕ). map code_of h.plain ++ x) rest_none ∙ append-nil (map code_of h.plain)) in
     let more : map candidate_of (good ++ word ∷ []) ≡ symbols ++ symbol ∷ [] =
-      map_push candidate_of good word ∙ ap (λ s. symbols ++ s ∷ []) (sym m.0) in
+    map_push candidate_of good word ∙ ap (λ s. symbols ++ s ∷ []) (sym m.0) in
     let last = key symbols h.taken in
     let codes : map code_of (h.plain ++ plain ∷ []) ≡ map code_of h.plain ++ out ∷ [] =
-      map_push code_of h.plain plain ∙ ap (λ n. map code_of h.plain ++ n ∷ []) (sym code) in
+    map_push code_of h.plain plain ∙ ap (λ n. map code_of h.plain ++ n ∷ []) (sym code) in
     record {
       good = good ++ word ∷ [];
       rest = [];

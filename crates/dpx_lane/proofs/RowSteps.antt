@@ -1,5 +1,6 @@
 -- A row that is worked on place by place.
-use Rattle.std.proofs.Common.{◌≡◌, ℕ, ◌<◌, ◌+◌, List, [], ◌∷◌, ◌++◌, length, take, drop, set, get_or, refl, sym, ap, subst, ◌∙◌}
+use Rattle.std.proofs.Common.{◌≡◌, ℕ, ◌<◌, ◌+◌, List, [], ◌∷◌, ◌++◌, length, take, drop, set, get_or, refl, sym, ap}
+use Rattle.std.proofs.Common.{subst, ◌∙◌}
 use Rattle.std.proofs.Common.{arith, append_assoc, add-zero}
 use Rattle.std.proofs.lemmas.List.{get_or-drop, take_more, take_more_set, drop-set-lt, drop-drop}
 
@@ -21,12 +22,12 @@ pub row_more : (old now new : List ℕ → List ℕ → Type 0) (before row : Li
 row_more old now new before row i out l long so_far same after taken left h =
     let here = entry_left before row i same in
     let a : taken ++ take (i + 1) before ≡ (taken ++ take i before) ++ get_or row i 0 ∷ [] =
-      ap (λ (xs : List ℕ). taken ++ xs)
-        (take_more before i 0 l ∙ ap (λ (k : ℕ). take i before ++ k ∷ []) (sym here))
-      ∙ sym (append_assoc taken (take i before) (get_or row i 0 ∷ [])) in
+    ap (λ (xs : List ℕ). taken ++ xs)
+    (take_more before i 0 l ∙ ap (λ (k : ℕ). take i before ++ k ∷ []) (sym here))
+    ∙ sym (append_assoc taken (take i before) (get_or row i 0 ∷ [])) in
     let b : left ++ take (i + 1) (set row i out) ≡ (left ++ take i row) ++ out ∷ [] =
-      ap (λ (xs : List ℕ). left ++ xs) (take_more_set row i out (omega (arith, l, long)))
-      ∙ sym (append_assoc left (take i row) (out ∷ [])) in
+    ap (λ (xs : List ℕ). left ++ xs) (take_more_set row i out (omega (arith, l, long)))
+    ∙ sym (append_assoc left (take i row) (out ∷ [])) in
     let r = after (taken ++ take i before) (left ++ take i row) (so_far taken left h) in
     subst (λ (xs : List ℕ). new xs (left ++ take (i + 1) (set row i out))) (sym a)
     (subst (λ (xs : List ℕ). new ((taken ++ take i before) ++ get_or row i 0 ∷ []) xs) (sym b) r)

@@ -1,5 +1,6 @@
 -- A lane on the way out goes on.
-use Rattle.std.proofs.Common.{◌≡◌, ℕ, ◌<◌, ◌≤◌, ◌+◌, ◌-◌, Bool, false, IsTrue, List, [], ◌∷◌, ◌++◌, length, map, get_or, replicate}
+use Rattle.std.proofs.Common.{◌≡◌, ℕ, ◌<◌, ◌≤◌, ◌+◌, ◌-◌, Bool, false, IsTrue, List, [], ◌∷◌, ◌++◌, length, map, get_or}
+use Rattle.std.proofs.Common.{replicate}
 use Rattle.std.proofs.Common.{refl, sym, ap, subst, ◌∙◌, arith, append_assoc, append-nil, length-append, ⊎_elim}
 use Rattle.std.specs.Prelude.{slice_index}
 use Rattle.std.proofs.lemmas.Bool.{cases_lt}
@@ -27,10 +28,11 @@ coded_code old new code word keyed codes words h taken key c =
     let last = scrambled (since_reset symbols) (symbol_of code) in
     record {
       keyed = h.keyed ++ last ∷ [];
-      key = subst (λ xs. Keyed xs (h.keyed ++ last ∷ [])) (sym more) (keyed_more symbols h.keyed (symbol_of code) h.key);
+      key = subst (λ xs. Keyed xs (h.keyed ++ last ∷ [])) (sym more)
+          (keyed_more symbols h.keyed (symbol_of code) h.key);
       code =
           coded_more false h.keyed words old.plus last word new.plus h.code
-            (subst (λ s. Codes s old.plus word new.plus) key c);
+          (subst (λ s. Codes s old.plus word new.plus) key c);
       taken = subst (λ xs. HasTaken new.scrambler xs) (sym more) taken;
     }
 
@@ -39,10 +41,10 @@ pub codes_join : (xs ys : List ℕ) → AllCodes xs → AllCodes ys → AllCodes
 codes_join xs ys h k i l = ⊎_elim
     (λ (a : i < length xs). subst (λ c. IsTrue (is_code c)) (sym (get_or_append_left xs ys 0 i a)) (h i a))
     (λ (a : length xs ≤ i).
-      let j = i - length xs in
-      let e : i ≡ length xs + j = omega (arith, a) in
-      let there = ap (λ n. get_or (xs ++ ys) n 0) e ∙ get_or-append-add xs ys j 0 in
-      subst (λ c. IsTrue (is_code c)) (sym there) (k j (omega (arith, a, l, length-append xs ys))))
+    let j = i - length xs in
+    let e : i ≡ length xs + j = omega (arith, a) in
+    let there = ap (λ n. get_or (xs ++ ys) n 0) e ∙ get_or-append-add xs ys j 0 in
+    subst (λ c. IsTrue (is_code c)) (sym there) (k j (omega (arith, a, l, length-append xs ys))))
     (cases_lt i (length xs))
 
 pub codes_left : (xs ys all : List ℕ) → xs ++ ys ≡ all → AllCodes all → AllCodes xs

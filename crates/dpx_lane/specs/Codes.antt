@@ -1,5 +1,6 @@
 -- The codes of a row: this project's own.
-use Rattle.std.specs.Prelude.{ℕ, ◌+◌, ◌%◌, ◌<◌, Bool, not, ◌&&◌, ◌||◌, nat_lt, if◌then◌else◌, IsTrue, List, length, slice_index}
+use Rattle.std.specs.Prelude.{ℕ, ◌+◌, ◌%◌, ◌<◌, Bool, not, ◌&&◌, ◌||◌, nat_lt, if◌then◌else◌, IsTrue, List, length}
+use Rattle.std.specs.Prelude.{slice_index}
 use Rattle.dpx_base.specs.Code.{is_control}
 use Rattle.dpx_base.specs.declared.sym.Sym.{Sym}
 

@@ -1,5 +1,5 @@
 -- The rows of the lanes: this project's own.
-use Rattle.std.specs.Prelude.{ℕ, ◌+◌, ◌*◌, List, [], ◌∷◌, map, slice_index, slice_index_or}
+use Rattle.std.specs.Prelude.{ℕ, ◌+◌, ◌*◌, List, [], ◌∷◌, map, replicate, slice_index, slice_index_or}
 use Rattle.std.specs.List.{range_with_len}
 use Rattle.dpx_base.specs.Lanes.{lanes_count}
 use Rattle.dpx_base.specs.Words.{words_of}
@@ -11,6 +11,10 @@ pub record RowsFacts : Type 0 where
   pub lanes : Lanes
   pub rows : List (List ℕ)
   pub clocks : ℕ
+
+-- rows that hold no clock
+abbrev pub no_rows : Lanes → RowsFacts
+no_rows lanes = record { lanes = lanes; rows = replicate (lanes_count lanes) []; clocks = 0 }
 
 -- of what four lanes have, what the lanes in use have, lane 0 first
 abbrev pub in_use : {A : Type 0} → Lanes → A → A → A → A → List A

@@ -1,7 +1,8 @@
 -- A lane on the way out.
-use Rattle.std.specs.Prelude.{◌≡◌, ℕ, Bool, false, List, ◌++◌, length, map, replicate}
+use Rattle.std.specs.Prelude.{◌≡◌, ℕ, Bool, false, List, ◌++◌, length, map, take, replicate}
 use Rattle.dpx_base.specs.Code.{Coded}
 use Rattle.dpx_base.specs.Key.{Keyed}
+use Rattle.dpx_base.specs.Words.{fill}
 use Rattle.dpx_base.specs.declared.sym.Sym.{Sym}
 use Rattle.dpx_lane.specs.Codes.{symbol_of}
 use Rattle.dpx_lane.specs.Scrambling.{HasTaken}
@@ -27,3 +28,11 @@ pub record HasSent (lane : LaneTx) (lag : ℕ) (codes words : List ℕ) : Type 0
 abbrev pub SendsRow : LaneTx → List ℕ → LaneTx → List ℕ → Type 0
 SendsRow old row new out =
     (lag : ℕ) (codes words : List ℕ) → HasSent old lag codes words → HasSent new lag (codes ++ row) (words ++ out)
+
+-- The first words of a row that lags by so many clocks, as many as symbols are there: fills, and then the symbols, with
+-- the key on them, coded from minus on.
+pub record IsSent (lag : ℕ) (symbols : List Sym) (words : List ℕ) : Type 0 where
+  pub keyed : List Sym
+  pub end : Bool
+  pub key : Keyed (take (length symbols) (replicate lag fill ++ symbols)) keyed
+  pub code : Coded false keyed words end

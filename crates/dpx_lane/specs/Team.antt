@@ -1,7 +1,8 @@
 -- Lanes side by side, each with its own state.
-use Rattle.std.specs.Prelude.{ℕ, ◌+◌, ◌*◌, List, [], ◌∷◌}
+use Rattle.std.specs.Prelude.{ℕ, ◌+◌, ◌*◌, List, [], ◌∷◌, ◌++◌}
 use Rattle.dpx_base.specs.declared.lanes.Lanes.{Lanes}
 use Rattle.dpx_lane.specs.Receiving.{HasRead}
+use Rattle.dpx_lane.specs.Rows.{lane_by_lane}
 use Rattle.dpx_lane.specs.Sending.{HasSent}
 use Rattle.dpx_lane.specs.declared.lane_rx.LaneRx.{LaneRx}
 use Rattle.dpx_lane.specs.declared.lane_tx.LaneTx.{LaneTx}
@@ -33,3 +34,7 @@ abbrev pub TeamRead : List LaneRx → (words left : List (List ℕ)) → Type 0
 TeamRead [] [] [] = Unit {0}
 TeamRead (s ∷ ss) (w ∷ ws) (l ∷ ls) = HasRead s w l × TeamRead ss ws ls
 TeamRead _ _ _ = ⊥
+
+-- each lane's list, with its row behind
+abbrev pub joined : (lists rows : List (List ℕ)) → List (List ℕ)
+joined lists rows = lane_by_lane (λ list row. list ++ row) lists rows

@@ -26,7 +26,8 @@ impl Coder {
     /// The word of the next code.
     fn word(&mut self, table: &WordTable, code: u16) -> u16
         requires { IsTrue (is_code code) }
-        ensures { (codes words : List ℕ) → HasCoded self.old codes words → HasCoded self.new (codes ++ code ∷ []) (words ++ result ∷ []) }
+        ensures { (codes words : List ℕ) → HasCoded self.old codes words
+            → HasCoded self.new (codes ++ code ∷ []) (words ++ result ∷ []) }
     {
         let sym = self.scrambler.next(symbol_of(code));
         let (word, plus) = table.word(code_of(sym), self.plus);
@@ -37,7 +38,8 @@ impl Coder {
     /// Puts the words of a row's codes into their places.
     pub(crate) fn code_row(&mut self, table: &WordTable, row: &mut [u16])
         requires { AllCodes row.old }
-        ensures { (codes words : List ℕ) → HasCoded self.old codes words → HasCoded self.new (codes ++ row.old) (words ++ row.new) }
+        ensures { (codes words : List ℕ) → HasCoded self.old codes words
+            → HasCoded self.new (codes ++ row.old) (words ++ row.new) }
     {
         // A copy stays in registers while the row is coded.
         let mut local = *self;

@@ -1,10 +1,10 @@
 ghost use Rattle.std.specs.Prelude.{◌≡◌, ◌<◌, ◌≤◌, ◌+◌, ◌*◌, ◌%◌, ◌/◌, [], ◌∷◌, ◌++◌};
-ghost use Rattle.std.specs.Prelude.{length, replicate, IfOk, vec_len, vec_capacity};
+ghost use Rattle.std.specs.Prelude.{ℕ, length, IfOk, vec_len, vec_capacity};
 ghost use Rattle.dpx_base.specs.Capture.{word_bytes, words_in};
 ghost use Rattle.dpx_base.specs.Lanes.{lanes_count};
 ghost use Rattle.dpx_base.specs.Words.{words_of};
 ghost use Rattle.dpx_lane.specs.Codes.{code_of};
-ghost use Rattle.dpx_lane.specs.Rows.{entry, lane_by_lane, clock_words};
+ghost use Rattle.dpx_lane.specs.Rows.{entry, lane_by_lane, clock_words, no_rows};
 
 use crate::code_of;
 use crate::words::{put_word, word_of};
@@ -31,7 +31,11 @@ impl Model for LaneRows {
 
     ghost Value = { RowsFacts };
 
-    ghost view = { λ r. record { lanes = r.lanes; rows = in_use r.lanes r.first.items r.second.items r.third.items r.fourth.items; clocks = length r.first.items } };
+    ghost view = { λ r. record {
+      lanes = r.lanes;
+      rows = in_use r.lanes r.first.items r.second.items r.third.items r.fourth.items;
+      clocks = length r.first.items;
+    } };
 
     ghost invariant = { HasRoom };
 }
@@ -47,7 +51,7 @@ fn put(row: &mut Vec<u16>, entry: u16)
 impl LaneRows {
     /// Takes room for 8,192 clocks, and holds none.
     pub fn new(alloc: Global, lanes: Lanes) -> Result<LaneRows, Memory>
-        ensures { IfOk result (λ rows. rows ≡ record { lanes = lanes; rows = replicate (lanes_count lanes) []; clocks = 0 }) }
+        ensures { IfOk result (λ rows. rows ≡ no_rows lanes) }
     {
         Ok(LaneRows {
             lanes,
@@ -65,15 +69,19 @@ impl LaneRows {
     }
 
     /// The clocks that it holds.
+    #[tactic(auto, using(crate::proofs::EvenRows::as_many, crate::proofs::EvenRows::even))]
     pub fn len(&self) -> usize
         ensures value { result ≡ self.now.clocks }
         ensures within { result ≤ 8192 }
+        ensures lanes { length self.now.rows ≡ lanes_count self.now.lanes }
+        ensures even { (lane : ℕ) → lane < lanes_count self.now.lanes
+            → length (words_of self.now.rows lane) ≡ self.now.clocks }
     {
         self.first.len()
     }
 
     pub fn clear(&mut self)
-        ensures { self.new ≡ record { lanes = self.old.lanes; rows = replicate (lanes_count self.old.lanes) []; clocks = 0 } }
+        ensures { self.new ≡ no_rows self.old.lanes }
     {
         self.first.clear();
         self.second.clear();
@@ -112,7 +120,11 @@ impl LaneRows {
     pub fn push_set(&mut self, set: &LaneSet)
         requires room { self.old.clocks < 8192 }
         requires lanes { length set.now ≡ lanes_count self.old.lanes }
-        ensures { self.new ≡ record { lanes = self.old.lanes; rows = lane_by_lane (λ row sym. row ++ code_of sym ∷ []) self.old.rows set.now; clocks = self.old.clocks + 1 } }
+        ensures { self.new ≡ record {
+          lanes = self.old.lanes;
+          rows = lane_by_lane (λ row sym. row ++ code_of sym ∷ []) self.old.rows set.now;
+          clocks = self.old.clocks + 1;
+        } }
     {
         let first = code_of(set.get(0));
         let (second, third, fourth) = match self.lanes {
@@ -134,7 +146,11 @@ impl LaneRows {
     fn push_words(&mut self, bytes: &[u8])
         requires room { self.old.clocks < 8192 }
         requires size { length bytes.now ≡ 2 * lanes_count self.old.lanes }
-        ensures { self.new ≡ record { lanes = self.old.lanes; rows = lane_by_lane (λ row word. row ++ word ∷ []) self.old.rows (clock_words self.old.lanes bytes.now); clocks = self.old.clocks + 1 } }
+        ensures { self.new ≡ record {
+          lanes = self.old.lanes;
+          rows = lane_by_lane (λ row word. row ++ word ∷ []) self.old.rows (clock_words self.old.lanes bytes.now);
+          clocks = self.old.clocks + 1;
+        } }
     {
         let first = word_of(bytes, 0);
         let (second, third, fourth) = match self.lanes {
@@ -163,7 +179,11 @@ impl LaneRows {
     pub fn read_words(&mut self, bytes: &[u8])
         requires whole { length bytes.now % (2 * lanes_count self.old.lanes) ≡ 0 }
         requires few { length bytes.now ≤ 2 * lanes_count self.old.lanes * 8192 }
-        ensures { self.new ≡ record { lanes = self.old.lanes; rows = words_in (lanes_count self.old.lanes) (length bytes.now / (2 * lanes_count self.old.lanes)) bytes.now; clocks = length bytes.now / (2 * lanes_count self.old.lanes) } }
+        ensures { self.new ≡ record {
+          lanes = self.old.lanes;
+          rows = words_in (lanes_count self.old.lanes) (length bytes.now / (2 * lanes_count self.old.lanes)) bytes.now;
+          clocks = length bytes.now / (2 * lanes_count self.old.lanes);
+        } }
     {
         let size = 2 * usize::from(self.lanes.count());
         self.clear();

@@ -47,7 +47,8 @@ impl LaneRx {
         requires clock { self.old.clock < 2 ^ 62 }
         requires fault { self.old.fault ≡ None }
         requires read { read_word word self.old.rd ≡ Ok (sym, rd) }
-        ensures state { (words left : List ℕ) → HasRead self.old words left → HasRead self.new (words ++ word ∷ []) (left ++ result ∷ []) }
+        ensures state { (words left : List ℕ) → HasRead self.old words left
+            → HasRead self.new (words ++ word ∷ []) (left ++ result ∷ []) }
         ensures clock { self.new.clock ≡ self.old.clock + 1 }
     {
         self.rd = rd;
@@ -57,7 +58,8 @@ impl LaneRx {
 
     fn step(&mut self, word: u16) -> u16
         requires { self.old.clock < 2 ^ 62 }
-        ensures state { (words left : List ℕ) → HasRead self.old words left → HasRead self.new (words ++ word ∷ []) (left ++ result ∷ []) }
+        ensures state { (words left : List ℕ) → HasRead self.old words left
+            → HasRead self.new (words ++ word ∷ []) (left ++ result ∷ []) }
         ensures clock { self.new.clock ≤ self.old.clock + 1 }
     {
         if self.fault.is_some() {

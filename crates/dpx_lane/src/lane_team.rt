@@ -96,7 +96,12 @@ impl<K: LaneWork> LaneTeam<K> {
         ensures clocks { rows.new.clocks ≡ rows.old.clocks }
     {
         match (workers, self.lanes, rows.lanes) {
-            (_, Lanes::One, Lanes::One) => work(gate, 0, &mut self.first, rows.first.as_mut_slice()),
+            (_, Lanes::One, Lanes::One) => work(
+                gate,
+                0,
+                &mut self.first,
+                rows.first.as_mut_slice(),
+            ),
             (Workers::One, Lanes::Two, Lanes::Two) => {
                 work(gate, 0, &mut self.first, rows.first.as_mut_slice());
                 work(gate, 1, &mut self.second, rows.second.as_mut_slice());

@@ -4,13 +4,14 @@
 //! * `scrambler`: the key
 //! * `word_table`, `coder`, `delay`, `lane_tx`: a lane on the way out
 //! * `symbol_table`, `lane_fault`, `lane_rx`: a lane on the way in
+//! * `laws`: what lanes that stand for whole lists say of them
 //! * `lane_work`: what a lane's state does to a row
 //! * `words`, `lane_rows`: the rows of the lanes, and their bytes
 //! * `workers`, `lane_team`: the lanes' states, run on their rows by one worker or one a lane
 #![tactic(auto)]
 
-mod codes;
 mod coder;
+mod codes;
 mod delay;
 mod lane_fault;
 mod lane_rows;
@@ -18,6 +19,7 @@ mod lane_rx;
 mod lane_team;
 mod lane_tx;
 mod lane_work;
+mod laws;
 mod scrambler;
 mod symbol_table;
 mod word_table;
@@ -31,4 +33,5 @@ pub use lane_rx::LaneRx;
 pub use lane_team::LaneTeam;
 pub use lane_tx::LaneTx;
 pub use lane_work::LaneWork;
+pub use laws::{lanes_read_their_words, lanes_send_their_rows, teams_go_on, the_key_comes_off};
 pub use scrambler::Scrambler;

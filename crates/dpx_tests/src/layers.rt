@@ -8,8 +8,10 @@ use std::process::Abort;
 
 mod aux;
 mod base;
+mod code;
 mod dpcd;
 mod files;
+mod lane;
 mod link;
 mod main_link;
 mod modes;

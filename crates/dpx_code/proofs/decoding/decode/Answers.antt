@@ -1,4 +1,5 @@
-use Rattle.dpx_code.proofs.Readings.{reads_ok, reads_its_symbol, reads_next, reads_unknown, reads_not_a_word, reads_wrong_column, reads_refusal}
+use Rattle.dpx_code.proofs.Readings.{reads_ok, reads_its_symbol, reads_next, reads_unknown, reads_not_a_word}
+use Rattle.dpx_code.proofs.Readings.{reads_wrong_column, reads_refusal}
 use Rattle.dpx_code.proofs.decoding.decode.Goals as goal
 
 pub returns-clause-ok : goal.returns-clause-ok

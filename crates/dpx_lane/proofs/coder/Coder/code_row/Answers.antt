@@ -13,7 +13,7 @@ pub loop-code-preserved : goal.loop-code-preserved
 loop-code-preserved c = record {
   coded =
       row_more (HasCoded c.args.self.now) (HasCoded c.loop-code.local) (HasCoded c.word.new.self) c.args.row.now
-        c.loop-code.row c.loop-code.code-index c.word.result c.loop-code-test.true c.loop-code.auto.row
-        c.loop-code.invariant.coded c.loop-code.invariant.rest c.word.ensures;
+      c.loop-code.row c.loop-code.code-index c.word.result c.loop-code-test.true c.loop-code.auto.row
+      c.loop-code.invariant.coded c.loop-code.invariant.rest c.word.ensures;
   rest = rest_more c.args.row.now c.loop-code.row c.loop-code.code-index c.word.result c.loop-code.invariant.rest;
 }

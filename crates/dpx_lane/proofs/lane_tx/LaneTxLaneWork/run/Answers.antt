@@ -7,7 +7,7 @@ pub code_row-requires : goal.code_row-requires
 code_row-requires c =
     let waiting = c.args.self.now.waiting.items in
     codes_left c.delay_row.new.row c.delay_row.new.waiting.items (waiting ++ c.args.row.now) c.delay_row.ensures.delayed
-      (codes_join waiting c.args.row.now c.args.self.now.codes c.requires)
+    (codes_join waiting c.args.row.now c.args.self.now.codes c.requires)
 
 pub invariant_of-self : goal.invariant_of-self
 invariant_of-self c =
@@ -15,10 +15,10 @@ invariant_of-self c =
     record {
       codes =
           codes_right c.delay_row.new.row c.delay_row.new.waiting.items (waiting ++ c.args.row.now)
-            c.delay_row.ensures.delayed (codes_join waiting c.args.row.now c.args.self.now.codes c.requires);
+          c.delay_row.ensures.delayed (codes_join waiting c.args.row.now c.args.self.now.codes c.requires);
     }
 
 pub returns : goal.returns
 returns c =
     sent_row c.args.self.now _ c.args.row.now c.delay_row.new.row c.code_row.new.row c.delay_row.ensures.delayed
-      c.delay_row.ensures.row c.code_row.ensures
+    c.delay_row.ensures.row c.code_row.ensures

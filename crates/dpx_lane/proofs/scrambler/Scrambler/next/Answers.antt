@@ -11,5 +11,8 @@ returns-clause-state c taken h =
 
 pub returns-clause-value : goal.returns-clause-value
 returns-clause-value c taken h =
-    let f : ℕ → Sym = λ k. if c.args.sym.control then c.args.sym else record c.args.sym { byte = bit_xor c.args.sym.byte k } in
+    let f : ℕ → Sym = λ k. if c.args.sym.control then c.args.sym else record c.args.sym {
+      byte =
+          bit_xor c.args.sym.byte k;
+    } in
     c.combined.ensures.value ∙ ap f (key_of c.args.self.now.register (since_reset taken) h)
