@@ -1,0 +1,15 @@
+pub mod Answered
+pub mod Beginning
+pub mod LockStays
+pub mod Meeting
+pub mod Once
+pub mod Scanned
+pub mod Scanning
+pub mod Seeking
+pub mod SentRows
+pub mod SentSets
+pub mod SentThere
+pub mod SentWay
+pub mod Stepping
+pub mod Steps
+pub mod Taking
