@@ -1,5 +1,9 @@
 pub mod Answered
 pub mod Beginning
+pub mod Fed
+pub mod FedOn
+pub mod FirstFaults
+pub mod LaneSymbols
 pub mod LockStays
 pub mod Meeting
 pub mod Once
@@ -13,3 +17,4 @@ pub mod SentWay
 pub mod Stepping
 pub mod Steps
 pub mod Taking
+pub mod Teams
