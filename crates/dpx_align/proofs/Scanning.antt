@@ -10,18 +10,18 @@ scan_zero : (test : ℕ → Bool) (a : ℕ) → scan 0 test a ≡ None
 unfolding scan
 scan_zero test a = refl
 
-pub scan_end : (n : ℕ) (test : ℕ → Bool) (a : ℕ) → n ≡ 0 → scan n test a ≡ None
-scan_end n test a e = ap (λ (k : ℕ). scan k test a) e ∙ scan_zero test a
+pub past : (n : ℕ) (test : ℕ → Bool) (a : ℕ) → n ≡ 0 → scan n test a ≡ None
+past n test a e = ap (λ (k : ℕ). scan k test a) e ∙ scan_zero test a
 
-pub scan_here : (m : ℕ) (test : ℕ → Bool) (a : ℕ) → a < m → test a ≡ true → scan (m - a) test a ≡ Some a
-scan_here m test a l h =
+pub here : (m : ℕ) (test : ℕ → Bool) (a : ℕ) → a < m → test a ≡ true → scan (m - a) test a ≡ Some a
+here m test a l h =
     let e : m - a ≡ suc (m - (a + 1)) = omega arith in
     ap (λ (k : ℕ). scan k test a) e ∙ (scan_suc (m - (a + 1)) test a
     ∙ ap (λ (b : Bool). cond b (Some a) (scan (m - (a + 1)) test (a + 1))) h)
 
-pub scan_more : (m : ℕ) (test : ℕ → Bool) (a : ℕ) → a < m → test a ≡ false
+pub more : (m : ℕ) (test : ℕ → Bool) (a : ℕ) → a < m → test a ≡ false
     → scan (m - a) test a ≡ scan (m - (a + 1)) test (a + 1)
-scan_more m test a l h =
+more m test a l h =
     let e : m - a ≡ suc (m - (a + 1)) = omega arith in
     ap (λ (k : ℕ). scan k test a) e ∙ (scan_suc (m - (a + 1)) test a
     ∙ ap (λ (b : Bool). cond b (Some a) (scan (m - (a + 1)) test (a + 1))) h)

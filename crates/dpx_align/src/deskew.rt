@@ -1,4 +1,5 @@
-ghost use Rattle.std.specs.Prelude.{◌≡◌, ◌<◌, ◌≤◌, ◌+◌, ◌^◌, ◌&&◌, ℕ, List, [], Bool, false, true, length, take, map, nat_lt};
+ghost use Rattle.std.specs.Prelude.{◌≡◌, ◌<◌, ◌≤◌, ◌+◌, ◌^◌, ◌&&◌, ℕ, List, [], Bool};
+ghost use Rattle.std.specs.Prelude.{false, true, length, take, map, nat_lt};
 ghost use Rattle.std.specs.Prelude.{replicate, slice_index_or, IfOk, IfSome, Some};
 ghost use Rattle.std.specs.List.{list_all};
 ghost use Rattle.dpx_base.specs.Lanes.{lanes_count};

@@ -91,7 +91,7 @@ impl Ring {
     }
 
     /// Whether the group stands at a place.
-    #[tactic(auto, using(crate::proofs::Beginning::begins_end, crate::proofs::Beginning::begins_past, crate::proofs::Beginning::begins_other, crate::proofs::Beginning::begins_more))]
+    #[tactic(auto, using(crate::proofs::Beginning::begins_end, crate::proofs::Beginning::begins_past))]
     pub fn begins_at(&self, group: &[Sym], place: usize) -> bool
         requires { place + length group.now < 2 ^ 64 }
         ensures { result ≡ begins_with group.now (drop place self.now) }
@@ -110,7 +110,7 @@ impl Ring {
     }
 
     /// The first place of a group within 16 symbols of a place.
-    #[tactic(auto, using(crate::proofs::Scanning::scan_end, crate::proofs::Scanning::scan_here, crate::proofs::Scanning::scan_more))]
+    #[tactic(auto, using(crate::proofs::Scanning::past, crate::proofs::Scanning::here, crate::proofs::Scanning::more))]
     pub fn near(&self, group: &[Sym], place: usize) -> Option<usize>
         requires { place + length group.now + 17 < 2 ^ 64 }
         ensures { result ≡ near group.now place self.now }

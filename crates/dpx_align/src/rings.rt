@@ -8,7 +8,8 @@ ghost use Rattle.dpx_base.specs.Lanes.{lanes_count};
 ghost use Rattle.dpx_base.specs.Words.{words_of};
 ghost use Rattle.dpx_lane.specs.Codes.{symbol_of};
 ghost use Rattle.dpx_align.specs.Lock.{lane_of};
-ghost use Rattle.dpx_align.specs.Search.{begins_with, near, meets, scan, start, head, lengthened, lock_in, kept, decoded};
+ghost use Rattle.dpx_align.specs.Search.{begins_with, near, meets, scan, start, head, lengthened};
+ghost use Rattle.dpx_align.specs.Search.{lock_in, kept, decoded};
 
 use crate::ring::Ring;
 use dpx_base::{LaneSet, Lanes, Sym};
@@ -48,7 +49,7 @@ fn meet(rings: &[Ring], group: &[Sym], place: usize) -> bool
 }
 
 /// The first place below `end` where the lanes can lock.
-#[tactic(auto, using(crate::proofs::Scanning::scan_end, crate::proofs::Scanning::scan_here, crate::proofs::Scanning::scan_more))]
+#[tactic(auto, using(crate::proofs::Scanning::past, crate::proofs::Scanning::here, crate::proofs::Scanning::more))]
 fn find(rings: &[Ring], group: &[Sym], end: usize) -> Option<usize>
     requires { end + length group.now + 17 < 2 ^ 64 }
     ensures place { result ≡ scan end (meets group.now rings.now) 0 }
