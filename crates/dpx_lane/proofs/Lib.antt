@@ -2,6 +2,7 @@ pub mod BadWords
 pub mod BitNumbers
 pub mod Bytes
 pub mod Entries
+pub mod EvenRows
 pub mod KeyBits
 pub mod KeyBytes
 pub mod Keyeds

@@ -16,7 +16,6 @@ pub fn code_of(sym: Sym) -> u16
 
 /// The symbol of a code.
 pub fn symbol_of(code: u16) -> Sym
-    requires { code < 512 }
     ensures value { result ≡ symbol_of code }
     ensures symbol { IsTrue (is_code code) → IsSymbol result }
 {

@@ -1,7 +1,8 @@
 ghost use Rattle.std.specs.Prelude.{◌≡◌, ◌<◌, ◌≤◌, ◌+◌, ◌*◌, ◌%◌, ◌/◌, [], ◌∷◌, ◌++◌};
-ghost use Rattle.std.specs.Prelude.{length, IfOk, vec_len, vec_capacity};
+ghost use Rattle.std.specs.Prelude.{ℕ, length, IfOk, vec_len, vec_capacity};
 ghost use Rattle.dpx_base.specs.Capture.{word_bytes, words_in};
 ghost use Rattle.dpx_base.specs.Lanes.{lanes_count};
+ghost use Rattle.dpx_base.specs.Words.{words_of};
 ghost use Rattle.dpx_lane.specs.Codes.{code_of};
 ghost use Rattle.dpx_lane.specs.Rows.{entry, lane_by_lane, clock_words, no_rows};
 
@@ -68,9 +69,13 @@ impl LaneRows {
     }
 
     /// The clocks that it holds.
+    #[tactic(auto, using(crate::proofs::EvenRows::as_many, crate::proofs::EvenRows::even))]
     pub fn len(&self) -> usize
         ensures value { result ≡ self.now.clocks }
         ensures within { result ≤ 8192 }
+        ensures lanes { length self.now.rows ≡ lanes_count self.now.lanes }
+        ensures even { (lane : ℕ) → lane < lanes_count self.now.lanes
+            → length (words_of self.now.rows lane) ≡ self.now.clocks }
     {
         self.first.len()
     }
@@ -95,6 +100,19 @@ impl LaneRows {
             1 => self.second[clock],
             2 => self.third[clock],
             _ => self.fourth[clock],
+        }
+    }
+
+    /// A lane's row.
+    pub fn row(&self, lane: u8) -> &[u16]
+        requires { lane < lanes_count self.now.lanes }
+        ensures { result.now ≡ words_of self.now.rows lane }
+    {
+        match lane {
+            0 => self.first.as_slice(),
+            1 => self.second.as_slice(),
+            2 => self.third.as_slice(),
+            _ => self.fourth.as_slice(),
         }
     }
 

@@ -141,7 +141,7 @@ due_bytes p t i j pixels more ready due count =
         rw (z, s, same_line p (pixels ++ more) i ready)
         (sym (byte_stable p pixels more lane (i * symbols (timing p) + j) ready.possible few whole)
         ∙ (lane_byte_at p (pixels ++ more) lane i j due.symbol_in
-          ∙ sym (byte_is (line_in p (pixels ++ more) i) lane j)))
+        ∙ sym (byte_is (line_in p (pixels ++ more) i) lane j)))
 
 -- a byte waits on each lane when a symbol is due
 pub due_waits : (p : PlanFacts) (t i j : ℕ) (pixels : List Pixel) (b : BufferState) → IsReady p → IsDue p t i j
