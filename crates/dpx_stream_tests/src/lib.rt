@@ -1,0 +1,11 @@
+//! Tests of the layers of the main link above the lanes: the schedule, the ticker, and the reader of sets.
+#![tactic(auto)]
+
+#[cfg(test)]
+mod frame;
+#[cfg(test)]
+mod modes;
+#[cfg(test)]
+mod parse;
+#[cfg(test)]
+mod source;
