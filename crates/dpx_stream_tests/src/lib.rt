@@ -1,6 +1,8 @@
-//! Tests of the layers of the main link above the lanes: the schedule, the ticker, and the reader of sets.
+//! Tests of layers of the main link: control symbols of the code, the schedule, the ticker, and the reader of sets.
 #![tactic(auto)]
 
+#[cfg(test)]
+mod code;
 #[cfg(test)]
 mod frame;
 #[cfg(test)]

@@ -230,7 +230,8 @@ fn frames_have_the_lines_of_the_attributes_in_force(rt: HostRuntime) {
 fn last_is_refused(rt: &impl Abort, sets: &[[u16; 2]], why: ParseWhy) {
     let mut parser = Parser::new(link(Lanes::Two, true));
     let mut answer = Ok(());
-    for [first, second] in sets {
+    for pair in sets {
+        let [first, second] = pair;
         answer = parser
             .feed(&LaneSet::from_slice(&[symbol(*first), symbol(*second)]))
             .map(|_| ());

@@ -63,7 +63,7 @@ fn set_of(rt: &impl Abort, alloc: Global, plan: &Plan, clock: u16) -> Option<Lan
     let mut ticker = Ticker::new(alloc, plan).expect(rt, "memory");
     let mut beam = Beam::new(plan.mode(), plan.link(), plan.frames());
     let mut next = 0;
-    for _before in 0..clock {
+    for before in 0..clock {
         let _set = tick(rt, &mut ticker, &mut beam, &mut next)?;
     }
     ticker.emit()

@@ -3,5 +3,5 @@ use Rattle.dpx_base.specs.declared.lanes.Lanes.TheVariants.{Two}
 use Rattle.dpx_parse.specs.Parser.{lanes_of}
 use Rattle.dpx_stream_tests.proofs.parse.last_is_refused.Given as goal
 
-abbrev pub invariant-loop-first : goal.invariant-loop-first
-invariant-loop-first l = lanes_of l.parser ≡ Two
+abbrev pub invariant-loop-pair : goal.invariant-loop-pair
+invariant-loop-pair l = lanes_of l.parser ≡ Two

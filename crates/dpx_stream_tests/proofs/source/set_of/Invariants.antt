@@ -2,11 +2,11 @@ use Rattle.std.proofs.Common.{◌≡◌, ◌≤◌, ◌*◌, false, None}
 use Rattle.dpx_source.specs.Ticker.{shown}
 use Rattle.dpx_stream_tests.proofs.source.set_of.Given as goal
 
-abbrev pub invariant-loop-_before : goal.invariant-loop-_before
-invariant-loop-_before l = record {
+abbrev pub invariant-loop-before : goal.invariant-loop-before
+invariant-loop-before l = record {
   given : l.ticker.given ≡ false;
   calm : l.ticker.refusal ≡ None;
   beside : l.beam ≡ record { shown = shown l.ticker.plan; clock = l.ticker.clock };
-  clock : l.beam.clock ≡ l._before;
-  next : l.next ≤ 2 * l._before;
+  clock : l.beam.clock ≡ l.before;
+  next : l.next ≤ 2 * l.before;
 }
