@@ -1,8 +1,6 @@
-//! Tests of layers of the main link: control symbols of the code, the schedule, the ticker, and the reader of sets.
+//! Tests of layers of the main link: the schedule, the ticker, and the reader of sets.
 #![tactic(auto)]
 
-#[cfg(test)]
-mod code;
 #[cfg(test)]
 mod frame;
 #[cfg(test)]

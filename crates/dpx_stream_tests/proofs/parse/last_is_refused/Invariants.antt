@@ -4,4 +4,4 @@ use Rattle.dpx_parse.specs.Parser.{lanes_of}
 use Rattle.dpx_stream_tests.proofs.parse.last_is_refused.Given as goal
 
 abbrev pub invariant-loop-pair : goal.invariant-loop-pair
-invariant-loop-pair l = lanes_of l.parser ≡ Two
+invariant-loop-pair g l = lanes_of l.parser ≡ Two
