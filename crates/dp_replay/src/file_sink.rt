@@ -103,7 +103,10 @@ mod tests {
 
     #[test]
     fn a_file_that_cannot_be_made_is_a_fault_at_each_write(rt: HostRuntime) {
-        fails_at_each_write(&rt, FileSink::create(&rt, "no folder/report"));
+        // a full device can be opened and takes no byte
+        for name in ["no folder/report", "/dev/full"] {
+            fails_at_each_write(&rt, FileSink::create(&rt, name));
+        }
         fails_at_each_write(&rt, FileSink::nothing());
     }
 

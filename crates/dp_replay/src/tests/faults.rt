@@ -54,6 +54,27 @@ fn a_read_that_fails_ends_the_command(rt: HostRuntime) -> Result<(), Fail> {
 }
 
 #[test]
+fn no_read_is_made_behind_one_that_fails(rt: HostRuntime) -> Result<(), Fail> {
+    let job = modelled(rt.alloc(), "RBR", 1, "")?;
+    // the read that would bring the last 12 of 140 bytes
+    let reads = Stream {
+        size: 16,
+        fails: &[8],
+    };
+    let mut port = PlanPort::new(rt.alloc())?;
+    let ran = run(
+        rt.alloc(),
+        "train job.json",
+        reads,
+        CALM,
+        job.as_bytes(),
+        &mut port,
+    )?;
+    assert_eq!(rt; (ran.ended(), ran.unread), (("read fault\n", 7), 12));
+    Ok(())
+}
+
+#[test]
 fn the_cuts_of_a_source_do_not_matter(rt: HostRuntime) -> Result<(), Fail> {
     let job = modelled(rt.alloc(), "RBR", 1, "")?;
     for size in [1, 2, 7, 4096] {
@@ -94,6 +115,7 @@ fn reads(
     rt: &impl Abort,
     alloc: Global,
     length: usize,
+    fails: &[u64],
     wanted: (&str, u8),
     unread: usize,
 ) -> Result<(), Fail> {
@@ -102,7 +124,7 @@ fn reads(
     let ran = run(
         alloc,
         "train job.json",
-        CALM,
+        Stream { size: 1024, fails },
         CALM,
         job.as_slice(),
         &mut port,
@@ -113,7 +135,10 @@ fn reads(
 
 #[test]
 fn a_job_is_read_up_to_its_longest_and_no_further(rt: HostRuntime) -> Result<(), Fail> {
-    reads(&rt, rt.alloc(), 1_048_576, (REPORT, 0), 0)?;
+    reads(&rt, rt.alloc(), 1_048_576, &[], (REPORT, 0), 0)?;
+    let too_long = ("job too long\n", 3);
     // of six bytes too many one is read
-    reads(&rt, rt.alloc(), 1_048_582, ("job too long\n", 3), 5)
+    reads(&rt, rt.alloc(), 1_048_582, &[], too_long, 5)?;
+    // a further read would fail
+    reads(&rt, rt.alloc(), 1_048_582, &[1025], too_long, 0)
 }
