@@ -1,19 +1,24 @@
-ghost use Rattle.std.specs.Prelude.{◌<◌};
+ghost use Rattle.std.specs.Prelude.{◌≡◌, ◌<◌};
 ghost use Rattle.dpx_base.specs.Code.{IsSymbol};
+ghost use Rattle.dpx_base.specs.Symbols.{control_symbol};
 ghost use Rattle.dpx_code.specs.Disparity.{IsKnown};
 
 use dpx_base::Sym;
 use dpx_code::{CodeBad, Rd, decode, encode};
 use std::process::Abort;
 
-const fn data(byte: u8) -> Sym {
+const fn data(byte: u8) -> Sym
+    ensures { IsSymbol result }
+{
     Sym {
         control: false,
         byte,
     }
 }
 
-const fn control(byte: u8) -> Sym {
+const fn control(byte: u8) -> Sym
+    ensures { result ≡ control_symbol byte }
+{
     Sym {
         control: true,
         byte,
@@ -174,6 +179,7 @@ fn both_ways(rt: &impl Abort, sym: Sym)
     there_and_back(rt, sym, true);
 }
 
+#[tactic(auto, unfolding(dpx_base::specs::Code::is_control, dpx_base::specs::Code::is_among, dpx_base::specs::Code::control_words))]
 #[test]
 fn symbols_go_there_and_back(rt: HostRuntime) {
     for byte in 0..=255u8 {
@@ -190,6 +196,7 @@ fn symbols_go_there_and_back(rt: HostRuntime) {
     both_ways(&rt, control(0xfe));
 }
 
+#[tactic(auto, unfolding(dpx_base::specs::Code::is_control, dpx_base::specs::Code::is_among, dpx_base::specs::Code::control_words))]
 #[test]
 fn worked_words_are_these(rt: HostRuntime) {
     assert_eq!(rt; encode(data(0x00), Rd::Minus), (0x274, Rd::Minus));

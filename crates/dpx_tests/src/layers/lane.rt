@@ -155,17 +155,6 @@ fn words_are_read_into_rows_lane_by_lane(rt: HostRuntime) -> Result<(), Memory> 
     Ok(())
 }
 
-#[test]
-fn sent_words_are_received(rt: HostRuntime) -> Result<(), Memory> {
-    let mut rows = LaneRows::new(rt.alloc(), Lanes::Two)?;
-    rows.read_words(&FIRST_WORDS);
-    let mut team = LaneTeam::rx(Lanes::Two);
-    team.run(&rt, &mut rows, Workers::Lanes, &NoGate);
-    assert_eq!(rt; team.lane(1).fault(), None);
-    assert_eq!(rt; (rows.get(0, 0), rows.get(1, 1)), (0, 0));
-    Ok(())
-}
-
 /// Each of two lanes turns until it sees the other.
 #[derive(Drop)]
 struct Meeting {

@@ -73,7 +73,9 @@ fn sizes_are_tried_at_their_edges(rt: HostRuntime) {
     ];
     for (place, number, wrong) in cases {
         let mut numbers = VGA;
-        numbers[place] = number;
+        if let Some(field) = numbers.get_mut(place) {
+            *field = number;
+        }
         reads(&rt, numbers, wrong);
     }
 }
@@ -108,7 +110,9 @@ fn sync_pulses_and_the_clock_are_tried_at_their_edges(rt: HostRuntime) {
     ];
     for (place, number, wrong) in cases {
         let mut numbers = VGA;
-        numbers[place] = number;
+        if let Some(field) = numbers.get_mut(place) {
+            *field = number;
+        }
         reads(&rt, numbers, wrong);
     }
 }
