@@ -1,5 +1,5 @@
 -- Members of a JSON value, as a job's fields want them: this project's own, over the words of serde_json.
-use Rattle.std.specs.Prelude.{ℕ, is_some, if◌then◌else◌, List, [], ◌∷◌, Option, Some, None, option_map}
+use Rattle.std.specs.Prelude.{ℕ, Bool, true, false, ◌==◌, is_some, if◌then◌else◌, List, [], ◌∷◌, Option, Some, None, option_map}
 use Rattle.std.specs.Prelude.{option_and_then, Result, Ok}
 use Rattle.std.specs.Str.{is_utf8}
 use Rattle.serde_json.specs.Data.{Data, Items, no_items, item}
@@ -15,6 +15,14 @@ json_of bytes = if is_utf8 bytes then read bytes else None
 -- a whole number that is not negative, written with no fraction and no exponent
 abbrev pub whole_number : Data → Option ℕ
 whole_number value = option_and_then as_u64 (as_number value)
+
+-- 0 or 1
+abbrev pub flag_from : ℕ → Option Bool
+flag_from number = if number == 0 then Some false else if number == 1 then Some true else None
+
+-- a flag is a number
+abbrev pub flag_of : Data → Option Bool
+flag_of value = option_and_then flag_from (whole_number value)
 
 -- the values of an array as a list
 abbrev pub list_of : Items → List Data

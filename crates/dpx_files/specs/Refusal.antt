@@ -1,8 +1,8 @@
 -- Refusals of a job: this project's own.
 use Rattle.std.specs.Prelude.{◌≡◌, ◌⊎◌, ℕ, List, codes, Option, Some, None, Result, Ok, Err, MatchResult}
 use Rattle.dpx_files.specs.declared.refusal.Field.{Field}
-use Rattle.dpx_files.specs.declared.refusal.Field.TheVariants.{Root, Link, Rate, Lanes, Sink, Script, Model, Caps}
-use Rattle.dpx_files.specs.declared.refusal.Field.TheVariants.{Extended, Defers, Channel}
+use Rattle.dpx_files.specs.declared.refusal.Field.TheVariants.{Root, Link, Rate, Lanes, Enhanced, Sink, Script, Model}
+use Rattle.dpx_files.specs.declared.refusal.Field.TheVariants.{Caps, Extended, Defers, Channel}
 use Rattle.dpx_files.specs.declared.refusal.JobBad.{JobBad}
 use Rattle.dpx_files.specs.declared.refusal.JobBad.TheVariants.{Wrong, Memory}
 
@@ -12,6 +12,7 @@ field_name Root = codes "job"
 field_name Link = codes "link"
 field_name Rate = codes "rate"
 field_name Lanes = codes "lanes"
+field_name Enhanced = codes "enhanced"
 field_name Sink = codes "sink"
 field_name Script = codes "script"
 field_name Model = codes "model"

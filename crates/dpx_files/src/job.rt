@@ -1,7 +1,7 @@
-ghost use Rattle.std.specs.Prelude.{◌≡◌, ◌<◌, ◌↔◌, true, length, None, IfOk, IsErr, IsErrOf};
+ghost use Rattle.std.specs.Prelude.{◌≡◌, ◌<◌, ◌↔◌, length, None, IfOk, IsErr, IsErrOf};
 ghost use Rattle.serde_json.specs.View.{view};
 ghost use Rattle.dpx_dpcd.specs.Model.{IsPlan};
-ghost use Rattle.dpx_files.specs.Job.{reading, job_of, sink_of, longest_job, link_asked, plan_asked, need_of};
+ghost use Rattle.dpx_files.specs.Job.{reading, job_of, sink_of, longest_job, plan_asked, need_of};
 ghost use Rattle.dpx_files.specs.Members.{json_of};
 ghost use Rattle.dpx_files.specs.Refusal.{GivesUnlessMemory, refused};
 
@@ -41,7 +41,6 @@ pub fn read_job(alloc: Global, bytes: &[u8], need: Need) -> Result<Job, JobBad>
     ensures not_json { IsErrOf result JobBad.NotJson → json_of bytes.now ≡ None }
     ensures only_json { json_of bytes.now ≡ None → IsErr result }
     ensures plan { IfOk result (λ job. IsPlan (plan_asked job)) }
-    ensures enhanced { IfOk result (λ job. (link_asked job).enhanced ≡ true) }
     ensures kind { IfOk result (λ job. need_of job ≡ need) }
 {
     if bytes.len() > LONGEST_JOB {
@@ -55,7 +54,6 @@ pub fn read_job(alloc: Global, bytes: &[u8], need: Need) -> Result<Job, JobBad>
 fn job_of(alloc: Global, value: &Value, need: Need) -> Result<Job, JobBad>
     ensures exact { GivesUnlessMemory (refused (job_of need (view value.now))) result }
     ensures plan { IfOk result (λ job. IsPlan (plan_asked job)) }
-    ensures enhanced { IfOk result (λ job. (link_asked job).enhanced ≡ true) }
     ensures kind { IfOk result (λ job. need_of job ≡ need) }
 {
     match need {

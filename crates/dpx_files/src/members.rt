@@ -1,6 +1,6 @@
 ghost use Rattle.std.specs.Prelude.{◌≡◌, ◌⊎◌, Some, None, map, option_map, MatchResult};
 ghost use Rattle.serde_json.specs.View.{view};
-ghost use Rattle.dpx_files.specs.Members.{json_of, elements, object_in};
+ghost use Rattle.dpx_files.specs.Members.{json_of, elements, flag_of, object_in};
 ghost use Rattle.dpx_files.specs.declared.refusal.JobBad.TheVariants.{NotJson, Memory};
 
 use crate::{Field, JobBad};
@@ -41,5 +41,16 @@ pub(crate) fn object_in(field: Field, member: Option<&Value>) -> Result<&Value, 
     match member {
         Some(value) if value.is_object() => Ok(value),
         _ => Err(field),
+    }
+}
+
+/// 0 or 1.
+pub(crate) fn read_flag(value: &Value) -> Option<bool>
+    ensures { result ≡ flag_of (view value.now) }
+{
+    match value.as_u64() {
+        Some(0) => Some(false),
+        Some(1) => Some(true),
+        _ => None,
     }
 }
