@@ -3,6 +3,8 @@
 //! * `ticker`: the sets of a plan, one a clock
 //! * `framing`: the sets that carry no bytes of lines
 //! * `range`, `bad_pixel`: pixels whose components are out of range
+//! * `transfer`, `word_writer`: the words of sets, and their bytes
+//! * `sender`, `sending`: all that a plan sends, over a pipe and a sink
 //! * `laws`: what waits in a ticker
 #![tactic(auto)]
 
@@ -10,8 +12,15 @@ mod bad_pixel;
 mod framing;
 mod laws;
 mod range;
+mod sender;
+mod sending;
 mod ticker;
+mod transfer;
+mod word_writer;
 
 pub use bad_pixel::BadPixel;
 pub use laws::bytes_wait;
+pub use sender::Sender;
+pub use sending::{DriveEnd, Sent, drive};
 pub use ticker::Ticker;
+pub use transfer::write_whole;
