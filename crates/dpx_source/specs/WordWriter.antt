@@ -1,10 +1,10 @@
 -- What a writer of words has taken and written: this project's own.
-use Rattle.std.specs.Prelude.{◌≡◌, ℕ, ◌<◌, ◌≤◌, ◌*◌, List, [], ◌++◌, length, map, Option}
+use Rattle.std.specs.Prelude.{◌≡◌, ℕ, ◌<◌, ◌≤◌, ◌-◌, ◌*◌, List, [], ◌++◌, length, map, replicate, Option}
 use Rattle.std.specs.List.{range_with_len}
 use Rattle.std.specs.Io.KnownBytes.{Appends}
 use Rattle.dpx_base.specs.Capture.{word_bytes}
 use Rattle.dpx_base.specs.Lanes.{lanes_count}
-use Rattle.dpx_base.specs.Words.{Sendable, column, words_of}
+use Rattle.dpx_base.specs.Words.{Sendable, column, fill, words_of}
 use Rattle.dpx_base.specs.declared.lanes.Lanes.{Lanes}
 use Rattle.dpx_base.specs.declared.sym.Sym.{Sym}
 use Rattle.dpx_lane.specs.Codes.{AllCodes, code_of}
@@ -49,3 +49,13 @@ abbrev pub HasWrittenFront : (lanes : ℕ) → (given : List (List Sym)) → (be
 HasWrittenFront lanes given before now =
     (more : List (List Sym)) (words : List (List ℕ)) → LanesSent lanes (given ++ more) words
     → AppendsFront before now (word_bytes lanes (length (given ++ more)) words)
+
+-- the bytes of the words of these sets were taken whole
+pub record HasWrittenAll (lanes : ℕ) (sets : List (List Sym)) (before now : Option (List ℕ)) : Type 0 where
+  pub words : List (List ℕ)
+  pub sent : LanesSent lanes sets words
+  pub taken : Appends before now (word_bytes lanes (length sets) words)
+
+-- sets, and the fills behind them in which the lanes that lag come to their end
+abbrev pub with_fills : Lanes → List (List Sym) → List (List Sym)
+with_fills lanes sets = sets ++ replicate (2 * (lanes_count lanes - 1)) (replicate (lanes_count lanes) fill)

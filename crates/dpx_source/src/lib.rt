@@ -11,6 +11,7 @@
 mod bad_pixel;
 mod framing;
 mod laws;
+mod probe;
 mod range;
 mod sender;
 mod sending;

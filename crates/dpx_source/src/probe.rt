@@ -1,0 +1,22 @@
+ghost use Rattle.std.specs.Prelude.{◌≡◌};
+
+#[tactic(auto, using(crate::proofs::SetSymbols::byte_small))]
+fn probe_symbols() -> u8
+    ensures { result ≡ 0 }
+{
+    0
+}
+
+#[tactic(auto, using(crate::proofs::LaneSents::bytes_front))]
+fn probe_sents() -> u8
+    ensures { result ≡ 0 }
+{
+    0
+}
+
+#[tactic(auto, using(crate::proofs::Batches::batch_front))]
+fn probe_batches() -> u8
+    ensures { result ≡ 0 }
+{
+    0
+}
