@@ -6,6 +6,7 @@ pub mod Batches
 pub mod Emits
 pub mod Flow
 pub mod Framings
+pub mod Fronts
 pub mod LaneSents
 pub mod Law
 pub mod News
@@ -13,6 +14,7 @@ pub mod Order
 pub mod Outcomes
 pub mod Ready
 pub mod Stands
+pub mod Stops
 pub mod Sums
 pub mod Table
 pub mod SetSymbols

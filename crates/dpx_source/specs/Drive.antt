@@ -29,7 +29,7 @@ pub record HasBegun (p : PlanFacts) (pipe : PipeState) : Type 0 where
 -- xs is the front of ys, or all of it
 pub record IsFront {X : Type 0} (xs ys : List X) : Type 0 where
   pub rest : List X
-  pub divided : ys ≡ xs ++ rest
+  pub is : xs ++ rest ≡ ys
 
 -- what is sent of a plan: its frames, their active lines, its clocks
 abbrev pub sent_of : PlanFacts → Sent

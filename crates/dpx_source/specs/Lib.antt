@@ -1,5 +1,6 @@
 pub mod Drive
 pub mod Framing
+pub mod Going
 pub mod Inside
 pub mod LineSums
 pub mod Pixels

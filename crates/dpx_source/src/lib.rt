@@ -4,11 +4,12 @@
 //! * `framing`: the sets that carry no bytes of lines
 //! * `range`, `bad_pixel`: pixels whose components are out of range
 //! * `transfer`, `word_writer`: the words of sets, and their bytes
-//! * `sender`, `sending`: all that a plan sends, over a pipe and a sink
+//! * `clocks`, `sender`, `sending`: all that a plan sends, over a pipe and a sink
 //! * `laws`: what waits in a ticker
 #![tactic(auto)]
 
 mod bad_pixel;
+mod clocks;
 mod framing;
 mod laws;
 mod probe;

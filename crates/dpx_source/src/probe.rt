@@ -20,3 +20,10 @@ fn probe_batches() -> u8
 {
     0
 }
+
+#[tactic(auto, using(crate::proofs::Stops::stop_write))]
+fn probe_stops() -> u8
+    ensures { result ≡ 0 }
+{
+    0
+}
