@@ -198,7 +198,7 @@ rows_run rows outs team after given before now w does same clocks size =
       is = ap (λ z. word_bytes n z words) long ∙ bytes_join n (length w.flushed) rows.clocks w.words outs.rows words joins;
     })
 
-no_codes_of : (lanes : Lanes) → no_rows lanes ≡ rows_of lanes []
+pub no_codes_of : (lanes : Lanes) → no_rows lanes ≡ rows_of lanes []
 no_codes_of One = refl
 no_codes_of Two = refl
 no_codes_of Four = refl

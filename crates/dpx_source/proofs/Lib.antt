@@ -1,9 +1,13 @@
 pub mod Absorbs
 pub mod ActiveLines
+pub mod AllArrived
+pub mod AllSent
 pub mod Appending
 pub mod Arrived
 pub mod Batches
+pub mod Drives
 pub mod Emits
+pub mod Endings
 pub mod Flow
 pub mod Framings
 pub mod Fronts

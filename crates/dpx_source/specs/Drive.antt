@@ -37,7 +37,7 @@ sent_of p = record { frames = p.frames; lines = p.frames * p.mode.height; clocks
 
 -- the pixels of all frames
 abbrev pub pixel_count : PlanFacts → ℕ
-pixel_count p = p.frames * (p.mode.height * p.mode.width)
+pixel_count p = p.frames * p.mode.height * p.mode.width
 
 -- The pipe, where it tells its sets, was handed a front of those of these pixels.
 abbrev pub HandedFront : PlanFacts → List Pixel → PipeState → Type 0

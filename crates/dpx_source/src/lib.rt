@@ -5,7 +5,7 @@
 //! * `range`, `bad_pixel`: pixels whose components are out of range
 //! * `transfer`, `word_writer`: the words of sets, and their bytes
 //! * `clocks`, `sender`, `sending`: all that a plan sends, over a pipe and a sink
-//! * `laws`: what waits in a ticker
+//! * `laws`: what waits in a ticker, and in which one way sending ends
 #![tactic(auto)]
 
 mod bad_pixel;
@@ -21,7 +21,7 @@ mod transfer;
 mod word_writer;
 
 pub use bad_pixel::BadPixel;
-pub use laws::bytes_wait;
+pub use laws::{bytes_wait, pipes_begin, sending_ends_once};
 pub use sender::Sender;
 pub use sending::{DriveEnd, Sent, drive};
 pub use ticker::Ticker;

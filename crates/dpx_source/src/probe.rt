@@ -27,3 +27,10 @@ fn probe_stops() -> u8
 {
     0
 }
+
+#[tactic(auto, using(crate::proofs::AllSent::whole_sent, crate::proofs::AllArrived::all_come))]
+fn probe_all() -> u8
+    ensures { result ≡ 0 }
+{
+    0
+}

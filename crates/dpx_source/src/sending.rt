@@ -1,15 +1,20 @@
 ghost use Rattle.std.specs.Prelude.{◌≡◌, ◌≢◌, ℕ, List, take, IfOk, IfSome, OnOk, Ok, Err, None};
 ghost use Rattle.dpx_base.specs.declared.pixel.Pixel.{Pixel};
 ghost use Rattle.dpx_base.specs.Pipe.{CountsFaults};
-ghost use Rattle.dpx_base.specs.Plan.{clocks};
+ghost use Rattle.dpx_base.specs.Plan.{IsPlan, clocks};
 ghost use Rattle.dpx_source.specs.declared.sending.DriveEnd.{DriveEnd};
 ghost use Rattle.dpx_source.specs.Drive.{HasBegun, HandedFront, HandedAll, TakenFront, TakenAll};
 ghost use Rattle.dpx_source.specs.Drive.{IsWhole, StopsBad, StopsShort, Drives, pixel_count, sent_of};
+ghost use Rattle.dpx_source.specs.Going.{IsDriven};
 ghost use Rattle.dpx_source.specs.Sender.{IsNew};
 ghost use Rattle.dpx_source.specs.Ticker.{StandsFor};
+ghost use Rattle.dpx_source.specs.WordWriter.{IsWriter};
 
-use crate::Sender;
+use crate::clocks::send_clock;
+use crate::word_writer::WordWriter;
+use crate::{Sender, Ticker};
 use dpx_base::{Gate, Pipe, Sink, Workers};
+use dpx_timing::Plan;
 use std::thread::Threads;
 
 /// What was sent.
@@ -31,6 +36,53 @@ pub enum DriveEnd {
     Ended(u64),
     PipeFault,
     WriteFault,
+}
+
+/// What is sent of a plan.
+fn sent_of(plan: &Plan) -> Sent
+    ensures { result ≡ sent_of plan.now }
+{
+    let frames = plan.frames();
+    Sent {
+        frames,
+        lines: u64::from(frames) * u64::from(plan.mode().height()),
+        clocks: plan.clocks(),
+    }
+}
+
+/// Sends all sets, clock by clock, and then what waits.
+fn send_all<T: Pipe, O: Sink, G: Gate, R: Threads + Sync>(
+    rt: &R,
+    ticker: &mut Ticker,
+    writer: &mut WordWriter,
+    pipe: &mut T,
+    out: &mut O,
+    workers: Workers,
+    gate: &G,
+) -> Result<Sent, DriveEnd>
+    requires new { IsNew (record { ticker = ticker.old; rows = writer.old.rows; team = writer.old.team }) }
+    requires writer { IsWriter writer.old }
+    requires begun { HasBegun ticker.old.plan (T.state pipe.old) }
+    ensures planned { IsPlan ticker.old.plan }
+    ensures writer { IsWriter writer.new }
+    ensures driven { IsDriven ticker.old.plan result (T.state pipe.old) (T.state pipe.new) (O.seen out.old).taken
+        (O.seen out.new).taken ticker.new }
+    ensures sent { IfOk result (λ sent. sent ≡ sent_of ticker.old.plan) }
+    ensures clock { OnOk result (ticker.new.clock ≡ clocks ticker.old.plan) }
+    ensures pixels { (T.state pipe.new).pixels ≡ (T.state pipe.old).pixels }
+    ensures pipe_faults { CountsFaults (result ≡ Err DriveEnd.PipeFault) (T.state pipe.old).faults
+        (T.state pipe.new).faults }
+    ensures write_faults { CountsFaults (result ≡ Err DriveEnd.WriteFault) (O.seen out.old).faults
+        (O.seen out.new).faults }
+{
+    let clocks = ticker.plan().clocks();
+    for done in 0..clocks {
+        send_clock(rt, ticker, writer, pipe, out, workers, gate)?;
+    }
+    if writer.finish(rt, out, workers, gate).is_err() {
+        return Err(DriveEnd::WriteFault);
+    }
+    Ok(sent_of(ticker.plan()))
 }
 
 /// Sends all sets of the sender's plan: the pipe is handed each set, and `out` takes the bytes of their words. It takes
@@ -74,5 +126,13 @@ pub fn drive<T: Pipe, O: Sink, G: Gate, R: Threads + Sync>(
         → result ≢ Err DriveEnd.PipeFault → result ≢ Err DriveEnd.WriteFault
         → result ≡ Ok (sent_of sender.old.ticker.plan)) }
 {
-    Err(DriveEnd::WriteFault)
+    send_all(
+        rt,
+        &mut sender.ticker,
+        &mut sender.writer,
+        pipe,
+        out,
+        workers,
+        gate,
+    )
 }

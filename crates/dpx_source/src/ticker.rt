@@ -72,6 +72,12 @@ impl Ticker {
         })
     }
 
+    pub fn plan(&self) -> &Plan
+        ensures { result.now ≡ self.now.plan }
+    {
+        &self.plan
+    }
+
     /// The set of the current clock; none behind the last. The set before it has to be followed by its pixels.
     pub fn emit(&mut self) -> Option<LaneSet>
         requires { self.old.given ≡ false }
