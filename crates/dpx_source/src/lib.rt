@@ -12,7 +12,6 @@ mod bad_pixel;
 mod clocks;
 mod framing;
 mod laws;
-mod probe;
 mod range;
 mod sender;
 mod sending;
