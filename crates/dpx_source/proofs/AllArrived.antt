@@ -1,5 +1,5 @@
 -- When the last set goes out, all pixels have arrived.
-use Rattle.std.proofs.Common.{◌≡◌, ℕ, suc, ◌<◌, ◌≤◌, ◌+◌, ◌-◌, ◌*◌, refl, sym, ap, arith, ◌∙◌, inl, inr}
+use Rattle.std.proofs.Common.{◌≡◌, ℕ, suc, ◌<◌, ◌≤◌, ◌-◌, ◌*◌, arith, ◌∙◌, inl, inr}
 use Rattle.std.proofs.Math.Nat.{mul-le-mul_right, lt_of_mul-lt-mul_left}
 use Rattle.std.proofs.lemmas.Bool.{cases_lt}
 use Rattle.dpx_base.specs.declared.depth.Depth.{Depth}
@@ -7,13 +7,13 @@ use Rattle.dpx_base.specs.declared.depth.Depth.TheVariants.{Six, Eight, Ten, Twe
 use Rattle.dpx_base.specs.Beam.{pixels_before}
 use Rattle.dpx_base.specs.Mode.{pixel_bits}
 use Rattle.dpx_base.specs.Plan.{PlanFacts, IsPlan, timing, lines, clocks}
-use Rattle.dpx_base.specs.Timing.{Timing, IsPossible, IsFit, symbols, floor_div, ceil_div, arrived, arrived_bytes, ticks, first_tick}
-use Rattle.dpx_base.specs.Timing.{place, start, line_end}
+use Rattle.dpx_base.specs.Timing.{Timing, IsPossible, IsFit, symbols, floor_div, ceil_div, arrived, ticks}
+use Rattle.dpx_base.specs.Timing.{place}
 use Rattle.dpx_timing.proofs.Floors.{floor_rises, floor_low, ceil_high}
 use Rattle.dpx_timing.proofs.Lines.{last_place, start_rises, symbols_pos}
 use Rattle.dpx_timing.proofs.Short.{arrived_most, bytes_part, line_never_short}
 use Rattle.dpx_source.specs.Drive.{pixel_count}
-use Rattle.dpx_source.specs.LineSums.{total, active_line, active_lines}
+use Rattle.dpx_source.specs.LineSums.{active_line, active_lines}
 use Rattle.dpx_source.specs.Ticker.{shown}
 use Rattle.dpx_source.proofs.ActiveLines.{active_small}
 use Rattle.dpx_source.proofs.Arrived.{arrived_is}

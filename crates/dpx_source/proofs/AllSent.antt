@@ -1,14 +1,12 @@
 -- The words of all sets, with the fills in which the lanes that lag come to their end.
-use Rattle.std.proofs.Common.{◌≡◌, ◌≤◌, ◌<◌, ℕ, zero, suc, ◌+◌, ◌-◌, ◌*◌, List, [], ◌∷◌, ◌++◌, length, take, map, replicate}
+use Rattle.std.proofs.Common.{◌≡◌, ◌≤◌, ℕ, zero, suc, ◌+◌, ◌-◌, ◌*◌, List, ◌++◌, length, take, replicate}
 use Rattle.std.proofs.Common.{refl, sym, ap, subst, ◌∙◌, arith, append_assoc, length-append}
 use Rattle.std.specs.Prelude.{slice_index_or}
 use Rattle.std.proofs.Math.Seq.{take-append_seam}
 use Rattle.std.proofs.lemmas.List.{length-replicate, replicate-append-replicate, map-append}
-use Rattle.dpx_base.specs.Capture.{word_bytes, capture_clocks}
 use Rattle.dpx_base.specs.Key.{Keyed}
 use Rattle.dpx_base.specs.Lanes.{lanes_count}
-use Rattle.dpx_base.specs.Plan.{PlanFacts, clocks}
-use Rattle.dpx_base.specs.Words.{fill, column, lane_row, words_of, LaneWords, SentWords}
+use Rattle.dpx_base.specs.Words.{fill, column, words_of, SentWords}
 use Rattle.dpx_base.specs.declared.lanes.Lanes.{Lanes}
 use Rattle.dpx_base.specs.declared.sym.Sym.{Sym}
 use Rattle.dpx_lane.specs.Sending.{IsSent}
@@ -67,7 +65,8 @@ whole_sent lanes sets words h = record {
       let m = 2 * (lanes_count lanes - 1) in
       let symbols = column lane sets in
       let back : 2 * (lanes_count lanes - 1 - lane) ≡ m - n = omega (arith, few) in
-      let row = ap (λ k. replicate n fill ++ (symbols ++ replicate k fill)) back ∙ sent_row n m symbols (omega (arith, few)) in
+      let row =
+      ap (λ k. replicate n fill ++ (symbols ++ replicate k fill)) back ∙ sent_row n m symbols (omega (arith, few)) in
       subst (λ (l : List Sym). IsSent n l (words_of words lane)) (sym (column_fills lanes lane sets)) (record {
         keyed = w.keyed;
         end = w.end;
@@ -82,7 +81,8 @@ pub sent_is_whole : (lanes : Lanes) (sets : List (List Sym)) (words : List (List
 sent_is_whole lanes sets words h = record {
   size = h.size;
   each = λ lane few. sent_whole (lanes_count lanes) lane (column lane sets) (words_of words lane) few
-      (subst (λ (l : List Sym). IsSent (2 * lane) l (words_of words lane)) (column_fills lanes lane sets) (h.each lane few));
+      (subst (λ (l : List Sym). IsSent (2 * lane) l (words_of words lane)) (column_fills lanes lane sets)
+      (h.each lane few));
 }
 
 pub with_fills_length : (lanes : Lanes) (sets : List (List Sym))

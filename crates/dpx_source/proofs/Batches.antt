@@ -1,11 +1,13 @@
 -- A set more in the rows, and a batch of them written.
-use Rattle.std.proofs.Common.{◌≡◌, ℕ, zero, suc, ◌<◌, ◌≤◌, ◌+◌, ◌-◌, ◌*◌, ◌%◌, Bool, true, false, IsTrue, List, [], ◌∷◌, ◌++◌, length}
-use Rattle.std.proofs.Common.{map, take, drop, replicate, refl, sym, ap, subst, ◌∙◌, arith, length-append, append_assoc, append-nil, Option}
-use Rattle.std.specs.Prelude.{slice_index_or, slice_index, not, nat_lt, ◌||◌, ◌&&◌, if◌then◌else◌, Result, Ok, Err, OnOk, OnErr}
+use Rattle.std.proofs.Common.{◌≡◌, ℕ, zero, suc, ◌<◌, ◌≤◌, ◌+◌, ◌-◌, ◌*◌, ◌%◌, Bool, true, false, IsTrue, List, []}
+use Rattle.std.proofs.Common.{◌∷◌, ◌++◌, length}
+use Rattle.std.proofs.Common.{map, replicate, refl, sym, ap, subst, ◌∙◌, arith, length-append, append_assoc}
+use Rattle.std.proofs.Common.{append-nil, Option}
+use Rattle.std.specs.Prelude.{slice_index_or, nat_lt, ◌||◌, ◌&&◌}
 use Rattle.std.specs.List.{range_with_len}
 use Rattle.std.specs.Io.KnownBytes.{Appends}
 use Rattle.std.proofs.lemmas.Bool.Decides.{nat_tests}
-use Rattle.std.proofs.lemmas.List.{length-map, map-append, map_push, length-replicate, get_or_append_left, replicate-append-replicate}
+use Rattle.std.proofs.lemmas.List.{map-append, map_push, get_or_append_left, replicate-append-replicate}
 use Rattle.dpx_base.specs.Capture.{word_bytes}
 use Rattle.dpx_base.specs.Code.{IsSymbol, is_control}
 use Rattle.dpx_base.specs.Lanes.{lanes_count}
@@ -22,9 +24,10 @@ use Rattle.dpx_lane.proofs.Sends.{codes_join}
 use Rattle.dpx_lane.proofs.Teams.{team_sends}
 use Rattle.dpx_source.specs.Framing.{AreSymbols}
 use Rattle.dpx_source.specs.Transfer.{AppendsFront}
-use Rattle.dpx_source.specs.WordWriter.{HasWritten, HasWrittenFront, HasWrittenAll, LanesSent, codes_of, rows_of, with_fills}
+use Rattle.dpx_source.specs.WordWriter.{HasWritten, HasWrittenFront, HasWrittenAll, LanesSent, codes_of, rows_of}
+use Rattle.dpx_source.specs.WordWriter.{with_fills}
 use Rattle.dpx_source.proofs.Appending.{appends_more, all_front, front_more}
-use Rattle.dpx_source.proofs.LaneSents.{some_lane, team_sent, sent_length, bytes_front, MoreBytes}
+use Rattle.dpx_source.proofs.LaneSents.{some_lane, team_sent, sent_length, bytes_front}
 use Rattle.dpx_source.proofs.WordBytes.{Joins, bytes_join}
 
 -- ---- codes
@@ -34,9 +37,11 @@ code_is symbol h = go symbol.control symbol.byte h
   where
     low : (byte : ℕ) → byte < 256 → is_code (byte + 0) ≡ true
     low byte h = grind (arith, nat_tests)
+
     control : (byte : ℕ) (k : Bool) → byte < 256 → k ≡ true → (byte + 256) % 256 ≡ byte
         → (nat_lt (byte + 256) 256 || (nat_lt (byte + 256) 512 && k)) ≡ true
     control byte k h e f = grind (arith, nat_tests)
+
     go : (c : Bool) (byte : ℕ) → IsSymbol (record { control = c; byte = byte })
         → IsTrue (is_code (code_of (record { control = c; byte = byte })))
     go true byte h =
@@ -52,7 +57,8 @@ one_code code h zero few = h
 one_code code h (suc k) few = absurd (omega (arith, few))
 
 -- rows of codes, with a code more on each
-pub codes_more : (rows : List (List ℕ)) (set : List Sym) → ((lane : ℕ) → AllCodes (words_of rows lane)) → AreSymbols set
+pub codes_more : (rows : List (List ℕ)) (set : List Sym) → ((lane : ℕ) → AllCodes (words_of rows lane))
+    → AreSymbols set
     → (lane : ℕ) → AllCodes (words_of (lane_by_lane (λ row sym. row ++ code_of sym ∷ []) rows set) lane)
 codes_more [] set h can lane = no_codes
 codes_more (row ∷ rows) [] h can lane = no_codes
@@ -72,9 +78,11 @@ each_takes (s ∷ states) [] h = tt
 each_takes (s ∷ states) (row ∷ rows) h = (h 0, each_takes states rows (λ lane. h (suc lane)))
 
 column_more : (lane : ℕ) (sets : List (List Sym)) (set : List Sym)
-    → map code_of (column lane (sets ++ set ∷ [])) ≡ map code_of (column lane sets) ++ code_of (slice_index_or set lane fill) ∷ []
+    → map code_of (column lane (sets ++ set ∷ []))
+    ≡ map code_of (column lane sets) ++ code_of (slice_index_or set lane fill) ∷ []
 column_more lane sets set =
-    ap (map code_of) (map_push (λ s. slice_index_or s lane fill) sets set) ∙ map_push code_of (column lane sets) (slice_index_or set lane fill)
+    ap (map code_of) (map_push (λ s. slice_index_or s lane fill) sets set)
+    ∙ map_push code_of (column lane sets) (slice_index_or set lane fill)
 
 abbrev pub pushed : RowsFacts → List Sym → RowsFacts
 pushed rows set = record {
@@ -91,10 +99,13 @@ rows_more lanes sets set size =
     made lanes _ _ _ _ (codes lanes set size) clocks
   where
     made : (lanes : Lanes) (a b : List (List ℕ)) (m n : ℕ) → a ≡ b → m ≡ n
-        → ◌≡◌ {A = RowsFacts} (record { lanes = lanes; rows = a; clocks = m }) (record { lanes = lanes; rows = b; clocks = n })
+        → ◌≡◌ {A = RowsFacts} (record { lanes = lanes; rows = a; clocks = m })
+        (record { lanes = lanes; rows = b; clocks = n })
     made lanes a b m n e f = cc
+
     codes : (lanes : Lanes) (set : List Sym) → length set ≡ lanes_count lanes
-        → lane_by_lane (λ row sym. row ++ code_of sym ∷ []) (codes_of lanes sets) set ≡ codes_of lanes (sets ++ set ∷ [])
+        → lane_by_lane (λ row sym. row ++ code_of sym ∷ []) (codes_of lanes sets) set
+        ≡ codes_of lanes (sets ++ set ∷ [])
     codes One (a ∷ []) e = let x = column_more 0 sets (a ∷ []) in cc
     codes Two (a ∷ b ∷ []) e =
         let x = column_more 0 sets (a ∷ b ∷ []) in
@@ -116,14 +127,17 @@ map_same : (f g : ℕ → List ℕ) (js : List ℕ) → ((j : ℕ) → f j ≡ g
 map_same f g [] h = refl
 map_same f g (j ∷ js) h = let e = h j in let rest = map_same f g js h in cc
 
-codes_joined : (lanes : Lanes) (xs ys : List (List Sym)) → joined (codes_of lanes xs) (codes_of lanes ys) ≡ codes_of lanes (xs ++ ys)
+codes_joined : (lanes : Lanes) (xs ys : List (List Sym))
+    → joined (codes_of lanes xs) (codes_of lanes ys) ≡ codes_of lanes (xs ++ ys)
 codes_joined lanes xs ys =
     let f : ℕ → List ℕ = λ lane. map code_of (column lane xs) in
     let g : ℕ → List ℕ = λ lane. map code_of (column lane ys) in
     let h : ℕ → List ℕ = λ lane. map code_of (column lane (xs ++ ys)) in
     joined_map f g (range_with_len 0 (lanes_count lanes))
     ∙ map_same (λ j. f j ++ g j) h (range_with_len 0 (lanes_count lanes))
-    (λ j. sym (ap (map code_of) (map-append (λ set. slice_index_or set j fill) xs ys) ∙ map-append code_of (column j xs) (column j ys)))
+    (λ j. sym
+    (ap (map code_of) (map-append (λ set. slice_index_or set j fill) xs ys)
+    ∙ map-append code_of (column j xs) (column j ys)))
 
 joined_at : (a b : List (List ℕ)) (lane : ℕ) → length a ≡ length b → lane < length a
     → words_of (joined a b) lane ≡ words_of a lane ++ words_of b lane
@@ -137,7 +151,8 @@ joined_at (x ∷ a) (y ∷ b) (suc lane) e few = joined_at a b lane (omega (arit
 pub sendable_none : Sendable []
 sendable_none k lane few = absurd (omega (arith, few))
 
-pub sendable_more : (sets : List (List Sym)) (set : List Sym) → Sendable sets → AreSymbols set → Sendable (sets ++ set ∷ [])
+pub sendable_more : (sets : List (List Sym)) (set : List Sym) → Sendable sets → AreSymbols set
+    → Sendable (sets ++ set ∷ [])
 sendable_more [] set h can zero lane few = can lane
 sendable_more [] set h can (suc k) lane few = absurd (omega (arith, few))
 sendable_more (x ∷ sets) set h can zero lane few = h 0 lane (omega arith)
@@ -166,12 +181,15 @@ written_push rows team given set before now size can w = record {
 }
 
 -- What is sent of all sets once the rows ran: the words of those before, and then the rows.
-pub record Ran (team after : TeamFacts LaneTx) (given : List (List Sym)) (rows outs : RowsFacts) (bytes : List ℕ) : Type 0 where
+pub record Ran (team after : TeamFacts LaneTx) (given : List (List Sym)) (rows outs : RowsFacts)
+    (bytes : List ℕ) : Type 0 where
   pub words : List (List ℕ)
   pub sent : TeamSent 0 after.states (codes_of after.lanes given) words
-  pub is : word_bytes (lanes_count after.lanes) (length given) words ≡ bytes ++ word_bytes (lanes_count after.lanes) outs.clocks outs.rows
+  pub is : word_bytes (lanes_count after.lanes) (length given) words
+      ≡ bytes ++ word_bytes (lanes_count after.lanes) outs.clocks outs.rows
 
-pub rows_run : (rows outs : RowsFacts) (team after : TeamFacts LaneTx) (given : List (List Sym)) (before now : Option (List ℕ))
+pub rows_run : (rows outs : RowsFacts) (team after : TeamFacts LaneTx) (given : List (List Sym))
+    (before now : Option (List ℕ))
     (w : HasWritten rows team given before now) → LanesDo SendsRow team.states rows.rows after.states outs.rows
     → after.lanes ≡ team.lanes → outs.clocks ≡ rows.clocks → length outs.rows ≡ lanes_count team.lanes
     → Ran team after given rows outs (word_bytes (lanes_count team.lanes) (length w.flushed) w.words)
@@ -180,7 +198,8 @@ rows_run rows outs team after given before now w does same clocks size =
     let words = joined w.words outs.rows in
     let row : rows.rows ≡ codes_of team.lanes w.waiting = ap (λ (r : RowsFacts). r.rows) w.rows_are in
     let count : rows.clocks ≡ length w.waiting = ap (λ (r : RowsFacts). r.clocks) w.rows_are in
-    let work = team_sends 0 team.states after.states (codes_of team.lanes w.flushed) w.words rows.rows outs.rows does w.sent in
+    let work =
+    team_sends 0 team.states after.states (codes_of team.lanes w.flushed) w.words rows.rows outs.rows does w.sent in
     let all : joined (codes_of team.lanes w.flushed) rows.rows ≡ codes_of team.lanes given =
     ap (λ l. joined (codes_of team.lanes w.flushed) l) row
     ∙ (codes_joined team.lanes w.flushed w.waiting ∙ ap (codes_of team.lanes) (sym w.parts)) in
@@ -191,11 +210,13 @@ rows_run rows outs team after given before now w does same clocks size =
       front = sent_length n w.flushed w.words stood;
       each = λ lane few. joined_at w.words outs.rows lane (stood.size ∙ sym size) (omega (arith, few, stood.size));
     } in
-    let long : length given ≡ length w.flushed + rows.clocks = omega (arith, ap length w.parts, length-append w.flushed w.waiting, count) in
+    let long : length given ≡ length w.flushed + rows.clocks =
+    omega (arith, ap length w.parts, length-append w.flushed w.waiting, count) in
     rw (same, clocks) (record {
       words = words;
       sent = subst (λ c. TeamSent 0 after.states c words) all work;
-      is = ap (λ z. word_bytes n z words) long ∙ bytes_join n (length w.flushed) rows.clocks w.words outs.rows words joins;
+      is = ap (λ z. word_bytes n z words) long
+          ∙ bytes_join n (length w.flushed) rows.clocks w.words outs.rows words joins;
     })
 
 pub no_codes_of : (lanes : Lanes) → no_rows lanes ≡ rows_of lanes []
@@ -204,7 +225,8 @@ no_codes_of Two = refl
 no_codes_of Four = refl
 
 -- the batch was taken whole
-pub batch_written : (rows outs after_rows : RowsFacts) (team after : TeamFacts LaneTx) (given : List (List Sym)) (before middle now : Option (List ℕ))
+pub batch_written : (rows outs after_rows : RowsFacts) (team after : TeamFacts LaneTx) (given : List (List Sym))
+    (before middle now : Option (List ℕ))
     → HasWritten rows team given before middle → LanesDo SendsRow team.states rows.rows after.states outs.rows
     → after.lanes ≡ team.lanes → outs.clocks ≡ rows.clocks → length outs.rows ≡ lanes_count team.lanes
     → after_rows ≡ no_rows team.lanes
@@ -228,7 +250,8 @@ batch_written rows outs after_rows team after given before middle now w does sam
     }
 
 -- a front of the batch was taken
-pub batch_front : (rows outs : RowsFacts) (team after : TeamFacts LaneTx) (given : List (List Sym)) (before middle now : Option (List ℕ))
+pub batch_front : (rows outs : RowsFacts) (team after : TeamFacts LaneTx) (given : List (List Sym))
+    (before middle now : Option (List ℕ))
     → HasWritten rows team given before middle → LanesDo SendsRow team.states rows.rows after.states outs.rows
     → after.lanes ≡ team.lanes → outs.clocks ≡ rows.clocks → length outs.rows ≡ lanes_count team.lanes
     → AppendsFront middle now (word_bytes (lanes_count team.lanes) outs.clocks outs.rows)
@@ -249,7 +272,8 @@ batch_front rows outs team after given before middle now w does same clocks size
     (all.is ∙ ap (λ l. l ++ all.rest) is) w.taken front
 
 -- what was written so far is a front
-pub written_front : (rows : RowsFacts) (team : TeamFacts LaneTx) (given : List (List Sym)) (before now : Option (List ℕ))
+pub written_front : (rows : RowsFacts) (team : TeamFacts LaneTx) (given : List (List Sym))
+    (before now : Option (List ℕ))
     → HasWritten rows team given before now → HasWrittenFront (lanes_count team.lanes) given before now
 written_front rows team given before now w more words sent =
     let n = lanes_count team.lanes in
@@ -257,12 +281,16 @@ written_front rows team given before now w more words sent =
     let stood = team_sent team.lanes team.states w.flushed w.words can w.sent in
     let whole : given ++ more ≡ w.flushed ++ (w.waiting ++ more) =
     ap (λ l. l ++ more) w.parts ∙ append_assoc w.flushed w.waiting more in
-    let all = bytes_front n w.flushed (w.waiting ++ more) w.words words (some_lane team.lanes) stood (subst (λ l. LanesSent n l words) whole sent) in
-    all_front before now (word_bytes n (length w.flushed) w.words) all.rest (word_bytes n (length (given ++ more)) words)
+    let all =
+    bytes_front n w.flushed (w.waiting ++ more) w.words words (some_lane team.lanes) stood
+    (subst (λ l. LanesSent n l words) whole sent) in
+    all_front before now (word_bytes n (length w.flushed) w.words) all.rest
+    (word_bytes n (length (given ++ more)) words)
     (ap (λ l. word_bytes n (length l) words) whole ∙ all.is) w.taken
 
 -- a front of less is a front of more
-pub front_on : (lanes : ℕ) (given more : List (List Sym)) (before now : Option (List ℕ)) → HasWrittenFront lanes given before now
+pub front_on : (lanes : ℕ) (given more : List (List Sym)) (before now : Option (List ℕ))
+    → HasWrittenFront lanes given before now
     → HasWrittenFront lanes (given ++ more) before now
 front_on lanes given more before now h rest words sent =
     let e : (given ++ more) ++ rest ≡ given ++ (more ++ rest) = append_assoc given more rest in
@@ -283,7 +311,8 @@ fills_on lanes given before now done h front =
     let i : List (List Sym) → List (List Sym) = λ l. given ++ l in
     let e : (given ++ replicate done f) ++ replicate (n - done) f ≡ with_fills lanes given =
     append_assoc given (replicate done f) (replicate (n - done) f)
-    ∙ ap i (replicate-append-replicate done (n - done) f ∙ ap g {x = done + (n - done)} {y = n} (omega (arith, h))) in
+    ∙ ap i (replicate-append-replicate done (n - done) f
+    ∙ ap g {x = done + (n - done)} {y = n} (omega (arith, h))) in
     subst (λ (l : List (List Sym)). HasWrittenFront (lanes_count lanes) l before now) e
     (front_on (lanes_count lanes) (given ++ replicate done f) (replicate (n - done) f) before now front)
 
@@ -295,11 +324,14 @@ fill_more given set done =
     ∙ ap (λ (l : List (List Sym)). given ++ l) (replicate-append-replicate done 1 set)
 
 -- where nothing waits, all was taken
-pub written_all : (rows : RowsFacts) (team : TeamFacts LaneTx) (given : List (List Sym)) (before now : Option (List ℕ))
-    → rows.clocks ≡ 0 → HasWritten rows team given before now → HasWrittenAll (lanes_count team.lanes) given before now
+pub written_all : (rows : RowsFacts) (team : TeamFacts LaneTx) (given : List (List Sym))
+    (before now : Option (List ℕ))
+    → rows.clocks ≡ 0 → HasWritten rows team given before now
+    → HasWrittenAll (lanes_count team.lanes) given before now
 written_all rows team given before now none w =
     let count : length w.waiting ≡ 0 = sym (ap (λ (r : RowsFacts). r.clocks) w.rows_are) ∙ none in
-    let e : given ≡ w.flushed = w.parts ∙ (ap (λ l. w.flushed ++ l) (empty w.waiting count) ∙ append-nil w.flushed) in
+    let e : given ≡ w.flushed =
+    w.parts ∙ (ap (λ l. w.flushed ++ l) (empty w.waiting count) ∙ append-nil w.flushed) in
     let can : Sendable w.flushed = sendable_front w.flushed w.waiting (subst Sendable w.parts w.sendable) in
     subst (λ (l : List (List Sym)). HasWrittenAll (lanes_count team.lanes) l before now) (sym e) (record {
       words = w.words;

@@ -1,6 +1,8 @@
 -- What sending did, from how far it came.
-use Rattle.std.proofs.Common.{◌≡◌, ◌≤◌, ℕ, ◌+◌, ◌-◌, ◌*◌, List, [], ◌∷◌, ◌++◌, length, take, map, replicate, Option, Some, None, IfSome}
-use Rattle.std.proofs.Common.{Result, Ok, Err, OnOk, refl, sym, ap, subst, ◌∙◌, arith, append_assoc, append-nil, length-append}
+use Rattle.std.proofs.Common.{◌≡◌, ℕ, ◌+◌, ◌-◌, ◌*◌, List, [], ◌++◌, length, take, replicate, Option, Some, None}
+use Rattle.std.proofs.Common.{IfSome}
+use Rattle.std.proofs.Common.{Result, Ok, Err, refl, sym, ap, subst, ◌∙◌, arith, append_assoc, append-nil}
+use Rattle.std.proofs.Common.{length-append}
 use Rattle.std.proofs.lemmas.Bool.Decides.{nat_tests}
 use Rattle.std.proofs.lemmas.List.FromFn.{length-map-range_with_len}
 use Rattle.std.specs.Io.KnownBytes.{Appends}
@@ -10,25 +12,22 @@ use Rattle.dpx_base.specs.declared.sym.Sym.{Sym}
 use Rattle.dpx_base.specs.Beam.{pixels_before}
 use Rattle.dpx_base.specs.Capture.{word_bytes, capture_clocks}
 use Rattle.dpx_base.specs.Lanes.{lanes_count}
-use Rattle.dpx_base.specs.Mode.{depth_bits}
 use Rattle.dpx_base.specs.Pipe.{PipeState}
 use Rattle.dpx_base.specs.Plan.{PlanFacts, IsPlan, clocks}
 use Rattle.dpx_base.specs.Sets.{sets, set_at}
-use Rattle.dpx_base.specs.Words.{fill, SentWords}
 use Rattle.dpx_base.proofs.Beams.{pixels_first}
 use Rattle.dpx_lane.proofs.WholeRows.{sent_once}
 use Rattle.dpx_lane.specs.Rows.{RowsFacts, no_rows}
-use Rattle.dpx_lane.specs.Team.{TeamFacts, TeamSent}
-use Rattle.dpx_lane.specs.declared.lane_tx.LaneTx.{LaneTx}
+use Rattle.dpx_lane.specs.Team.{TeamSent}
 use Rattle.dpx_source.specs.declared.sending.DriveEnd.{DriveEnd}
 use Rattle.dpx_source.specs.declared.sending.DriveEnd.TheVariants.{BadPixel, Ended, WriteFault}
 use Rattle.dpx_source.specs.declared.sending.Sent.{Sent}
 use Rattle.dpx_source.specs.Drive.{IsFront, HasBegun, TakenFront, TakenAll, pixel_count}
-use Rattle.dpx_source.specs.Going.{Going, Stopped, Ends, Sending, IsDriven, first_sets}
+use Rattle.dpx_source.specs.Going.{Going, Ends, Sending, IsDriven, first_sets}
 use Rattle.dpx_source.specs.Sender.{SenderState, IsNew}
-use Rattle.dpx_source.specs.Ticker.{TickerState, StandsFor, shown}
+use Rattle.dpx_source.specs.Ticker.{TickerState, shown}
 use Rattle.dpx_source.specs.Transfer.{AppendsFront}
-use Rattle.dpx_source.specs.WordWriter.{HasWritten, HasWrittenFront, HasWrittenAll, LanesSent, codes_of, rows_of, with_fills}
+use Rattle.dpx_source.specs.WordWriter.{HasWrittenFront, HasWrittenAll, LanesSent, codes_of, rows_of, with_fills}
 use Rattle.dpx_source.proofs.AllArrived.{all_come}
 use Rattle.dpx_source.proofs.AllSent.{whole_sent, sent_is_whole, with_fills_length}
 use Rattle.dpx_source.proofs.Appending.{appends_none}
@@ -43,13 +42,16 @@ front_none : (told : Option (List Pixel)) → IfSome told (λ all. IsFront [] al
 front_none None = tt
 front_none (Some all) = record { rest = all; is = refl }
 
-pub sending_none : (s : SenderState) (pipe : PipeState) (taken : Option (List ℕ)) → HasBegun s.ticker.plan pipe → IsNew s
+pub sending_none : (s : SenderState) (pipe : PipeState) (taken : Option (List ℕ)) → HasBegun s.ticker.plan pipe
+    → IsNew s
     → Sending s.ticker.plan [] pipe s.ticker s.rows s.team taken taken
 sending_none s pipe taken begun new =
     let n = lanes_count s.team.lanes in
     let words : List (List ℕ) = replicate n [] in
-    let rows : s.rows ≡ rows_of s.team.lanes [] = new.rows ∙ (ap no_rows (sym new.lanes) ∙ no_codes_of s.team.lanes) in
-    let codes : replicate n [] ≡ codes_of s.team.lanes [] = ap (λ (r : RowsFacts). r.rows) (no_codes_of s.team.lanes) in
+    let rows : s.rows ≡ rows_of s.team.lanes [] =
+    new.rows ∙ (ap no_rows (sym new.lanes) ∙ no_codes_of s.team.lanes) in
+    let codes : replicate n [] ≡ codes_of s.team.lanes [] =
+    ap (λ (r : RowsFacts). r.rows) (no_codes_of s.team.lanes) in
     record {
       going = record {
         handed = [];
@@ -79,7 +81,8 @@ sending_none s pipe taken begun new =
 sets_length : (p : PlanFacts) (pixels : List Pixel) → length (sets p pixels) ≡ clocks p
 sets_length p pixels = length-map-range_with_len (set_at p pixels) 0 (clocks p)
 
-all_length : (p : PlanFacts) (pixels : List Pixel) → length (with_fills p.link.lanes (sets p pixels)) ≡ capture_clocks p
+all_length : (p : PlanFacts) (pixels : List Pixel)
+    → length (with_fills p.link.lanes (sets p pixels)) ≡ capture_clocks p
 all_length p pixels =
     with_fills_length p.link.lanes (sets p pixels)
     ∙ ap (λ k. k + 2 * (lanes_count p.link.lanes - 1)) (sets_length p pixels)
@@ -100,7 +103,8 @@ all_taken : (p : PlanFacts) (pixels : List Pixel) (before now : Option (List ℕ
 all_taken p pixels before now w = record {
   words = w.words;
   sent = sent_is_whole p.link.lanes (sets p pixels) w.words w.sent;
-  taken = subst (λ k. Appends before now (word_bytes (lanes_count p.link.lanes) k w.words)) (all_length p pixels) w.taken;
+  taken = subst (λ k. Appends before now (word_bytes (lanes_count p.link.lanes) k w.words))
+      (all_length p pixels) w.taken;
 }
 
 all_front : (p : PlanFacts) (pixels : List Pixel) (before now : Option (List ℕ)) → TakenAll p pixels before now
@@ -147,13 +151,16 @@ driven_err p end before now taken_before taken ticker same e =
 
 -- all sets were given
 given_all : (p : PlanFacts) (given : List (List Sym)) (pipe : PipeState) (ticker : TickerState)
-    (g : Going p given pipe ticker) → length given ≡ clocks p → (more : List Pixel) → given ≡ sets p (g.handed ++ more)
+    (g : Going p given pipe ticker) → length given ≡ clocks p → (more : List Pixel)
+    → given ≡ sets p (g.handed ++ more)
 given_all p given pipe ticker g size more =
     let f : ℕ → List (List Sym) = λ n. first_sets p (g.handed ++ more) n in
     g.sets_of more ∙ ap f size
 
-pub driven_write : (p : PlanFacts) (given : List (List Sym)) (before now : PipeState) (taken_before taken : Option (List ℕ))
-    (ticker after : TickerState) (lanes : Lanes) → lanes ≡ p.link.lanes → Going p given now ticker → length given ≡ clocks p
+pub driven_write : (p : PlanFacts) (given : List (List Sym)) (before now : PipeState)
+    (taken_before taken : Option (List ℕ))
+    (ticker after : TickerState) (lanes : Lanes) → lanes ≡ p.link.lanes → Going p given now ticker
+    → length given ≡ clocks p
     → now.pixels ≡ before.pixels
     → HasWrittenFront (lanes_count lanes) (with_fills lanes given) taken_before taken
     → IsDriven p (Err WriteFault) before now taken_before taken after
@@ -161,7 +168,8 @@ driven_write p given before now taken_before taken ticker after lanes same_lanes
     let m = goes g.handed now.pixels g.front in
     let pixels : List Pixel = g.handed ++ m.more in
     let all = given_all p given now ticker g size m.more in
-    let here = subst (λ (l : Lanes). HasWrittenFront (lanes_count l) (with_fills l given) taken_before taken) same_lanes w in
+    let here =
+    subst (λ (l : Lanes). HasWrittenFront (lanes_count l) (with_fills l given) taken_before taken) same_lanes w in
     let whole : with_fills p.link.lanes given ++ [] ≡ with_fills p.link.lanes (sets p pixels) =
     append-nil (with_fills p.link.lanes given) ∙ ap (with_fills p.link.lanes) all in
     record {
@@ -193,7 +201,8 @@ driven_ok p sent given before now taken_before taken ticker lanes plan same_lane
     let m = goes g.handed now.pixels g.front in
     let pixels : List Pixel = g.handed ++ m.more in
     let all = given_all p given now ticker g size m.more in
-    let here = subst (λ (l : Lanes). HasWrittenAll (lanes_count l) (with_fills l given) taken_before taken) same_lanes w in
+    let here =
+    subst (λ (l : Lanes). HasWrittenAll (lanes_count l) (with_fills l given) taken_before taken) same_lanes w in
     let there = subst (λ (l : List (List Sym)). HasWrittenAll (lanes_count p.link.lanes) (with_fills p.link.lanes l)
     taken_before taken) all here in
     let bytes = all_taken p pixels taken_before taken there in

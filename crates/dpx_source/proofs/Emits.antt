@@ -1,5 +1,5 @@
 -- A ticker that gives a set.
-use Rattle.std.proofs.Common.{◌≡◌, ℕ, ◌<◌, ◌≤◌, ◌+◌, List, [], ◌++◌, length, refl, sym, ap, arith, ◌∙◌, map, true}
+use Rattle.std.proofs.Common.{◌≡◌, ℕ, ◌<◌, ◌≤◌, ◌+◌, List, ◌++◌, length, refl, sym, ap, arith, ◌∙◌, map, true}
 use Rattle.std.proofs.Common.{false}
 use Rattle.std.proofs.Common.{Bool, if◌then◌else◌, inl, inr, min}
 use Rattle.std.proofs.lemmas.Bool.{cases_lt}
@@ -9,7 +9,7 @@ use Rattle.dpx_base.specs.declared.slot.Slot.{Slot}
 use Rattle.dpx_base.specs.declared.slot.Slot.TheVariants.{Valid, Ended}
 use Rattle.dpx_base.specs.Lanes.{lanes_count}
 use Rattle.dpx_base.specs.Plan.{PlanFacts, timing, clocks}
-use Rattle.dpx_base.specs.Sets.{bytes_at, set_of, set_at, line_bytes}
+use Rattle.dpx_base.specs.Sets.{bytes_at, set_of, set_at}
 use Rattle.dpx_base.specs.Slots.{slot_at}
 use Rattle.dpx_base.specs.Symbols.{data_symbol}
 use Rattle.dpx_pack.specs.Positions.{span}
@@ -21,14 +21,14 @@ use Rattle.dpx_buffer.specs.Buffer.{BufferState, Holds, lane_byte, line_in}
 use Rattle.dpx_base.specs.Timing.{symbols}
 use Rattle.std.specs.Prelude.{◌/◌, ◌%◌, slice_index}
 use Rattle.dpx_source.specs.declared.ticker.Ticker.TheInside.{Inside}
-use Rattle.dpx_source.specs.Framing.{AreSymbols, HasNoBytes}
+use Rattle.dpx_source.specs.Framing.{AreSymbols}
 use Rattle.dpx_source.specs.Inside.{state_of, IsInside}
-use Rattle.dpx_source.specs.LineSums.{active_line, sent_before}
+use Rattle.dpx_source.specs.LineSums.{sent_before}
 use Rattle.dpx_source.specs.Ticker.{TickerState, StandsFor, IsTicker, sets_given}
 use Rattle.dpx_source.proofs.Ready.{IsReady, IsTable, ready_is}
 use Rattle.dpx_source.proofs.SetSymbols.{data_set, byte_small}
 use Rattle.dpx_source.proofs.Stands.{due_waits, due_next, not_due_next, due_bytes}
-use Rattle.dpx_source.proofs.Table.{IsTold, is_table, slot_told, not_ended}
+use Rattle.dpx_source.proofs.Table.{is_table, slot_told}
 
 -- a ticker whose clock's set was not given yet
 pub record IsEmitting (t : TickerState) : Type 0 where

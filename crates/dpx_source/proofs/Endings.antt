@@ -1,6 +1,7 @@
 -- Sending of pixels ends in one way.
-use Rattle.std.proofs.Common.{◌≡◌, ◌≢◌, ◌≤◌, ◌<◌, inl, inr, ℕ, zero, suc, ◌+◌, ◌-◌, List, [], ◌∷◌, ◌++◌, length, take, drop}
-use Rattle.std.proofs.Common.{Option, Some, None, option_map, IfSome, IfOk, Result, Ok, Err, refl, sym, ap, ◌∙◌, arith, false}
+use Rattle.std.proofs.Common.{◌≡◌, ◌≢◌, ◌≤◌, ◌<◌, inl, inr, ℕ, zero, suc, ◌+◌, ◌-◌, List, [], ◌∷◌, ◌++◌, take, drop}
+use Rattle.std.proofs.Common.{Option, Some, None, option_map, IfSome, IfOk, Result, Ok, Err, refl, sym, ap, ◌∙◌}
+use Rattle.std.proofs.Common.{arith, false}
 use Rattle.std.proofs.Math.Nat.{add-zero}
 use Rattle.std.proofs.lemmas.Bool.{cases_lt}
 use Rattle.std.proofs.lemmas.Bool.Decides.{nat_tests}
@@ -12,7 +13,6 @@ use Rattle.dpx_base.specs.Mode.{depth_bits}
 use Rattle.dpx_base.specs.Pipe.{PipeState, IsBegun}
 use Rattle.dpx_base.specs.Plan.{PlanFacts, IsPlan, clocks}
 use Rattle.dpx_base.proofs.Beams.{pixels_step}
-use Rattle.dpx_source.specs.declared.bad_pixel.BadPixel.{BadPixel}
 use Rattle.dpx_source.specs.declared.sending.DriveEnd.{DriveEnd}
 use Rattle.dpx_source.specs.declared.sending.DriveEnd.TheVariants.{BadPixel as Bad, Ended, PipeFault, WriteFault}
 use Rattle.dpx_source.specs.declared.sending.Sent.{Sent}
@@ -22,11 +22,13 @@ use Rattle.dpx_source.specs.Pixels.{first_bad, bad_value, bad_or_later}
 use Rattle.dpx_source.specs.Ticker.{TickerState, shown}
 use Rattle.dpx_source.proofs.AllArrived.{all_come}
 
-none_sets : (told : Option (List (List Sym))) → IfSome {T = List (List Sym)} (option_map (λ sets. []) told) (λ sets. sets ≡ [])
+none_sets : (told : Option (List (List Sym)))
+    → IfSome {T = List (List Sym)} (option_map (λ sets. []) told) (λ sets. sets ≡ [])
 none_sets None = tt
 none_sets (Some sets) = refl
 
-pub has_begun : (p : PlanFacts) (before now : PipeState) → IsBegun (shown p) (clocks p) false before now → HasBegun p now
+pub has_begun : (p : PlanFacts) (before now : PipeState) → IsBegun (shown p) (clocks p) false before now
+    → HasBegun p now
 has_begun p before now b = record {
   begun = b.begun;
   clocks_told = b.clocks_told;
@@ -56,7 +58,8 @@ good_front d n (x ∷ xs) ys h = go (bad_value d x) (λ k. good_front d (n + 1) 
     go None ih k = ih k
     go (Some value) ih k = grind (arith, nat_tests)
 
-good_take : (d m n : ℕ) (xs : List Pixel) → m ≤ n → first_bad d 0 (take n xs) ≡ None → first_bad d 0 (take m xs) ≡ None
+good_take : (d m n : ℕ) (xs : List Pixel) → m ≤ n → first_bad d 0 (take n xs) ≡ None
+    → first_bad d 0 (take m xs) ≡ None
 good_take d m n xs h good =
     let t : take m (take n xs) ≡ take m xs = take-take m n xs h in
     rw (← t) (good_front d 0 (take m (take n xs)) (drop m (take n xs)) (rw (take-append-drop m (take n xs)) good))
@@ -87,7 +90,8 @@ pub bad_not_short : (p : PlanFacts) (pixels : List Pixel) (number value n : ℕ)
 bad_not_short p pixels number value n b s = elim (cases_lt b.clock s.clock) [
   | inl less ↦
       let none = good_take (depth_bits p.mode.depth) (pixels_before (shown p) (b.clock + 1))
-      (pixels_before (shown p) s.clock) pixels (rises (shown p) (b.clock + 1) s.clock (omega (arith, less))) s.good in
+      (pixels_before (shown p) s.clock) pixels
+      (rises (shown p) (b.clock + 1) s.clock (omega (arith, less))) s.good in
       some_none (sym b.bad ∙ none)
   | inr least ↦
       omega (
@@ -119,12 +123,15 @@ told_drives p result before now taken_before taken ticker d =
 -- where all pixels are there and no fault was counted, all was sent
 pub whole_ends : (p : PlanFacts) (pixels : List Pixel) (result : Result Sent DriveEnd) (now : PipeState)
     (taken_before taken : Option (List ℕ)) (ticker : TickerState) → IsPlan p
-    → IfOk result (λ sent. sent ≡ sent_of p) → Drives p pixels result now taken_before taken ticker → IsWhole p pixels
+    → IfOk result (λ sent. sent ≡ sent_of p) → Drives p pixels result now taken_before taken ticker
+    → IsWhole p pixels
     → result ≢ Err PipeFault → result ≢ Err WriteFault → result ≡ Ok (sent_of p)
 whole_ends p pixels (Ok sent) now taken_before taken ticker plan is d w no_pipe no_write = ap Ok is
 whole_ends p pixels (Err (Bad number value)) now taken_before taken ticker plan is d w no_pipe no_write =
     absurd (bad_not_whole p pixels number value plan (d.bad_pixel number value refl) w)
 whole_ends p pixels (Err (Ended n)) now taken_before taken ticker plan is d w no_pipe no_write =
     absurd (short_not_whole p pixels n plan (d.ended n refl) w)
-whole_ends p pixels (Err PipeFault) now taken_before taken ticker plan is d w no_pipe no_write = absurd (no_pipe refl)
-whole_ends p pixels (Err WriteFault) now taken_before taken ticker plan is d w no_pipe no_write = absurd (no_write refl)
+whole_ends p pixels (Err PipeFault) now taken_before taken ticker plan is d w no_pipe no_write =
+    absurd (no_pipe refl)
+whole_ends p pixels (Err WriteFault) now taken_before taken ticker plan is d w no_pipe no_write =
+    absurd (no_write refl)

@@ -1,10 +1,8 @@
 -- Fronts of lists.
-use Rattle.std.proofs.Common.{◌≡◌, ◌≤◌, ◌<◌, ℕ, zero, suc, ◌+◌, ◌-◌, Bool, true, false, List, [], ◌∷◌, ◌++◌, length, take, drop}
-use Rattle.std.proofs.Common.{map, replicate, Option, Some, None, Result, Ok, Err, IfSome, refl, sym, ap, ◌∙◌, arith}
-use Rattle.std.proofs.Common.{append_assoc, append-nil, length-append, nat_lt}
-use Rattle.std.specs.Prelude.{if◌then◌else◌}
-use Rattle.std.specs.List.{range_with_len}
-use Rattle.std.proofs.Math.Seq.{take-append_seam, drop-append_seam}
+use Rattle.std.proofs.Common.{◌≡◌, ◌≤◌, ℕ, ◌+◌, ◌-◌, List, [], ◌∷◌, ◌++◌, length, take, drop}
+use Rattle.std.proofs.Common.{replicate, Option, Some, None, Ok, Err, IfSome, refl, sym, ap, ◌∙◌, arith}
+use Rattle.std.proofs.Common.{length-append}
+use Rattle.std.proofs.Math.Seq.{take-append_seam}
 use Rattle.std.proofs.Math.Nat.{add-zero}
 use Rattle.std.proofs.lemmas.Bool.Decides.{nat_tests}
 use Rattle.std.proofs.lemmas.List.{take-append-drop, length-replicate}
@@ -16,7 +14,6 @@ use Rattle.dpx_base.specs.declared.sym.Sym.{Sym}
 use Rattle.dpx_base.specs.Pipe.{handed_over}
 use Rattle.dpx_base.specs.Plan.{PlanFacts, clocks}
 use Rattle.dpx_base.specs.Sets.{sets, set_at, black}
-use Rattle.dpx_source.specs.declared.bad_pixel.BadPixel.{BadPixel}
 use Rattle.dpx_source.specs.Drive.{IsFront}
 use Rattle.dpx_source.specs.Going.{first_sets}
 use Rattle.dpx_source.specs.Pixels.{first_bad, bad_value, bad_or_later}

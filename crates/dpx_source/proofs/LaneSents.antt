@@ -1,18 +1,18 @@
 -- What lanes that stand for the codes of sets have sent.
-use Rattle.std.proofs.Common.{◌≡◌, ℕ, zero, suc, ◌<◌, ◌≤◌, ◌+◌, ◌-◌, ◌*◌, ◌%◌, Bool, true, false, List, [], ◌∷◌, ◌++◌, length}
-use Rattle.std.proofs.Common.{map, take, drop, replicate, refl, sym, ap, subst, ◌∙◌, arith, length-append, append_assoc}
-use Rattle.std.specs.Prelude.{slice_index_or, not, nat_lt, if◌then◌else◌}
+use Rattle.std.proofs.Common.{◌≡◌, ℕ, zero, suc, ◌<◌, ◌≤◌, ◌+◌, ◌*◌, Bool, true, false, List, [], ◌∷◌, ◌++◌, length}
+use Rattle.std.proofs.Common.{map, take, drop, replicate, refl, sym, ap, subst, ◌∙◌, arith, length-append}
+use Rattle.std.proofs.Common.{append_assoc}
+use Rattle.std.specs.Prelude.{slice_index_or, not, nat_lt}
 use Rattle.std.specs.List.{range_with_len}
-use Rattle.std.proofs.Math.Seq.{take-append_seam}
 use Rattle.std.proofs.lemmas.Bool.Decides.{nat_tests}
-use Rattle.std.proofs.lemmas.List.{length-map, map-append, take-append-drop, take-append-le, take-take, length-take-le}
-use Rattle.std.proofs.lemmas.List.{length-replicate, replicate-append-replicate}
+use Rattle.std.proofs.lemmas.List.{length-map, map-append, take-append-drop, take-append-le, take-take}
+use Rattle.std.proofs.lemmas.List.{length-take-le}
 use Rattle.std.proofs.lemmas.List.FromFn.{get_or-map-range_with_len, length-map-range_with_len}
 use Rattle.dpx_base.specs.Capture.{word_bytes}
-use Rattle.dpx_base.specs.Code.{IsSymbol, Coded}
+use Rattle.dpx_base.specs.Code.{Coded}
 use Rattle.dpx_base.specs.Key.{Keyed}
 use Rattle.dpx_base.specs.Lanes.{lanes_count}
-use Rattle.dpx_base.specs.Words.{fill, Sendable, column, words_of, lane_row, LaneWords, SentWords}
+use Rattle.dpx_base.specs.Words.{fill, Sendable, column, words_of}
 use Rattle.dpx_base.specs.declared.lanes.Lanes.{Lanes}
 use Rattle.dpx_base.specs.declared.lanes.Lanes.TheVariants.{One, Two, Four}
 use Rattle.dpx_base.specs.declared.sym.Sym.{Sym}
@@ -22,7 +22,7 @@ use Rattle.dpx_lane.specs.Sending.{HasSent, IsSent}
 use Rattle.dpx_lane.specs.Team.{TeamSent}
 use Rattle.dpx_lane.specs.declared.lane_tx.LaneTx.{LaneTx}
 use Rattle.dpx_lane.proofs.Keyeds.{keyed_front, keyed_once}
-use Rattle.dpx_lane.proofs.WholeRows.{sent_so_far, sent_whole}
+use Rattle.dpx_lane.proofs.WholeRows.{sent_so_far}
 use Rattle.dpx_source.specs.WordWriter.{LanesSent, codes_of}
 use Rattle.dpx_source.proofs.WordBytes.{Joins, bytes_join}
 
@@ -38,16 +38,20 @@ code_back symbol small = go symbol.control symbol.byte small
     made : (a c : Bool) (b d : ℕ) → a ≡ c → b ≡ d
         → ◌≡◌ {A = Sym} (record { control = a; byte = b }) (record { control = c; byte = d })
     made a c b d e f = cc
+
     is_high : (byte : ℕ) → not (nat_lt (byte + 256) 256) ≡ true
     is_high byte = grind (arith, nat_tests)
+
     is_low : (byte : ℕ) → byte < 256 → not (nat_lt (byte + 0) 256) ≡ false
     is_low byte h = grind (arith, nat_tests)
+
     go : (control : Bool) (byte : ℕ) → byte < 256
         → symbol_of (code_of (record { control = control; byte = byte })) ≡ record { control = control; byte = byte }
     go true byte h = made _ _ _ _ (is_high byte) (omega (arith, h))
     go false byte h = made _ _ _ _ (is_low byte h) (omega (arith, h))
 
-codes_back : (lane : ℕ) (sets : List (List Sym)) → Sendable sets → map symbol_of (map code_of (column lane sets)) ≡ column lane sets
+codes_back : (lane : ℕ) (sets : List (List Sym)) → Sendable sets
+    → map symbol_of (map code_of (column lane sets)) ≡ column lane sets
 codes_back lane [] h = refl
 codes_back lane (set ∷ sets) h =
     let first : symbol_of (code_of (slice_index_or set lane fill)) ≡ slice_index_or set lane fill =
@@ -67,7 +71,8 @@ team_lane j [] [] (w ∷ ws) h i few = absurd h
 team_lane j [] (c ∷ cs) words h i few = absurd h
 team_lane j (s ∷ ss) [] words h i few = absurd h
 team_lane j (s ∷ ss) (c ∷ cs) [] h i few = absurd h
-team_lane j (s ∷ ss) (c ∷ cs) (w ∷ ws) h zero few = let e : j + 0 ≡ j = omega arith in record { state = s; sent = rw e h.0 }
+team_lane j (s ∷ ss) (c ∷ cs) (w ∷ ws) h zero few = let e : j + 0 ≡ j =
+    omega arith in record { state = s; sent = rw e h.0 }
 team_lane j (s ∷ ss) (c ∷ cs) (w ∷ ws) h (suc i) few =
     let l = team_lane (j + 1) ss cs ws h.1 i (omega (arith, few)) in
     let e : j + suc i ≡ j + 1 + i = omega arith in
@@ -91,28 +96,33 @@ codes_at lanes sets lane few =
     get_or-map-range_with_len (λ l. map code_of (column l sets)) 0 (lanes_count lanes) lane lane [] few (omega arith)
 
 -- the words that a team left are the first of its lanes' rows
-pub team_sent : (lanes : Lanes) (states : List LaneTx) (sets : List (List Sym)) (words : List (List ℕ)) → Sendable sets
+pub team_sent : (lanes : Lanes) (states : List LaneTx) (sets : List (List Sym)) (words : List (List ℕ))
+    → Sendable sets
     → TeamSent 0 states (codes_of lanes sets) words → LanesSent (lanes_count lanes) sets words
 team_sent lanes states sets words can h = record {
   size = team_size 0 states (codes_of lanes sets) words h ∙ codes_size lanes sets;
   each = λ lane few.
       let l = team_lane 0 states (codes_of lanes sets) words h lane (omega (arith, few, codes_size lanes sets)) in
       let z : 0 + lane ≡ lane = omega arith in
-      let sent = sent_so_far l.state (2 * (0 + lane)) (slice_index_or (codes_of lanes sets) lane []) (words_of words lane) l.sent in
+      let sent =
+      sent_so_far l.state (2 * (0 + lane)) (slice_index_or (codes_of lanes sets) lane [])
+      (words_of words lane) l.sent in
       let codes = codes_at lanes sets lane few in
       subst (λ symbols. IsSent (2 * lane) symbols (words_of words lane)) (codes_back lane sets can)
       (rw (z, codes) at sent);
 }
 
 -- as many words as sets
-pub sent_length : (lanes : ℕ) (sets : List (List Sym)) (words : List (List ℕ)) → LanesSent lanes sets words → (lane : ℕ)
+pub sent_length : (lanes : ℕ) (sets : List (List Sym)) (words : List (List ℕ)) → LanesSent lanes sets words
+    → (lane : ℕ)
     → lane < lanes → length (words_of words lane) ≡ length sets
 sent_length lanes sets words h lane few =
     let s = h.each lane few in
     let symbols = column lane sets in
     let size : length symbols ≡ length sets = length-map sets (λ set. slice_index_or set lane fill) in
     let row = replicate (2 * lane) fill ++ symbols in
-    let long = length-take-le (length symbols) row (omega (arith, length-append (replicate (2 * lane) fill) symbols)) in
+    let long =
+    length-take-le (length symbols) row (omega (arith, length-append (replicate (2 * lane) fill) symbols)) in
     omega (arith, size, long, s.key.size, coded_length false s.keyed (words_of words lane) s.end s.code)
 
 -- of the words of more sets, the first are those of the first sets
@@ -159,9 +169,12 @@ bytes_front lanes xs ys v w some h k =
       each = λ lane few.
           let s = k.each lane few in
           let t = subst (λ c. IsSent (2 * lane) c (words_of w lane)) (column_join lane xs ys) s in
-          let e = sent_front (2 * lane) (column lane xs) (column lane ys) (words_of v lane) (words_of w lane) (h.each lane few) t in
-          let there : words_of b lane ≡ rest lane = get_or-map-range_with_len rest 0 lanes lane lane [] few (omega arith) in
-          let front : words_of v lane ≡ take n (words_of w lane) = e ∙ ap (λ z. take z (words_of w lane)) (column_size lane xs) in
+          let e = sent_front (2 * lane) (column lane xs) (column lane ys) (words_of v lane) (words_of w lane)
+          (h.each lane few) t in
+          let there : words_of b lane ≡ rest lane =
+          get_or-map-range_with_len rest 0 lanes lane lane [] few (omega arith) in
+          let front : words_of v lane ≡ take n (words_of w lane) =
+          e ∙ ap (λ z. take z (words_of w lane)) (column_size lane xs) in
           sym (ap (λ l. words_of v lane ++ l) there
           ∙ (ap (λ l. l ++ rest lane) front ∙ take-append-drop n (words_of w lane)));
     } in

@@ -1,5 +1,5 @@
 -- What holds at an Ok, or at an Err.
-use Rattle.std.proofs.Common.{◌≡◌, ℕ, arith, Bool, true, false, Option, Some, None, Result, Ok, Err, OnOk, OnErr, is_err, IfSome}
+use Rattle.std.proofs.Common.{◌≡◌, ℕ, arith, true, false, Option, Some, Result, Ok, Err, OnOk, OnErr, is_err, IfSome}
 use Rattle.std.proofs.lemmas.Bool.Decides.{nat_tests}
 use Rattle.dpx_base.specs.Pipe.{CountsFaults}
 

@@ -1,6 +1,8 @@
 -- One clock more, and where sending stops.
-use Rattle.std.proofs.Common.{◌≡◌, ◌≤◌, ◌<◌, ◌⊎◌, inl, inr, ℕ, ◌+◌, Bool, true, false, List, [], ◌∷◌, ◌++◌, length, take, drop}
-use Rattle.std.proofs.Common.{Option, Some, None, option_map, Result, Ok, Err, IfSome, refl, sym, ap, subst, ◌∙◌, arith}
+use Rattle.std.proofs.Common.{◌≡◌, ◌≤◌, ◌<◌, ◌⊎◌, inl, inr, ℕ, ◌+◌, Bool, true, false, List, [], ◌∷◌, ◌++◌, length}
+use Rattle.std.proofs.Common.{take, drop}
+use Rattle.std.proofs.Common.{Option, Some, None, option_map, Result, Ok, Err, IfSome, refl, sym, ap, subst, ◌∙◌}
+use Rattle.std.proofs.Common.{arith}
 use Rattle.std.proofs.Common.{append_assoc, length-append}
 use Rattle.std.proofs.Math.Seq.{drop-append_seam}
 use Rattle.std.proofs.lemmas.Bool.Decides.{nat_tests}
@@ -17,8 +19,8 @@ use Rattle.dpx_base.specs.Sets.{sets, set_at}
 use Rattle.dpx_base.proofs.Beams.{pixels_step}
 use Rattle.dpx_source.specs.declared.bad_pixel.BadPixel.{BadPixel}
 use Rattle.dpx_source.specs.declared.sending.DriveEnd.{DriveEnd}
-use Rattle.dpx_source.specs.declared.sending.DriveEnd.TheVariants.{BadPixel as Bad, Ended, PipeFault, WriteFault}
-use Rattle.dpx_source.specs.Drive.{IsFront, StopsBad, StopsShort}
+use Rattle.dpx_source.specs.declared.sending.DriveEnd.TheVariants.{BadPixel as Bad, Ended, WriteFault}
+use Rattle.dpx_source.specs.Drive.{IsFront}
 use Rattle.dpx_source.specs.Going.{Going, Stopped, first_sets, pipe_stop}
 use Rattle.dpx_source.specs.Pixels.{first_bad, refused_with}
 use Rattle.dpx_source.specs.Ticker.{TickerState, StandsFor, shown}
@@ -227,7 +229,8 @@ stop_write p given pipe ticker g =
       pixels = g.handed ++ m.more;
       told = m.all;
       sets_of = given_front p given pipe ticker g m.more;
-      handed = told_front pipe.sets given (sets p (g.handed ++ m.more)) g.told (given_front p given pipe ticker g m.more);
+      handed = told_front pipe.sets given (sets p (g.handed ++ m.more)) g.told
+          (given_front p given pipe ticker g m.more);
       bad = λ number value e. grind (arith, nat_tests);
       ended = λ n e. grind (arith, nat_tests);
     }

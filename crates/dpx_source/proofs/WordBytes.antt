@@ -1,6 +1,6 @@
 -- The bytes of the lanes' words, over batches that go on.
-use Rattle.std.proofs.Common.{◌≡◌, ℕ, zero, suc, ◌<◌, ◌≤◌, ◌+◌, ◌*◌, ◌/◌, ◌%◌, List, [], ◌∷◌, ◌++◌, length, map, take}
-use Rattle.std.proofs.Common.{refl, sym, ap, ◌∙◌, arith, length-append}
+use Rattle.std.proofs.Common.{◌≡◌, ℕ, zero, suc, ◌<◌, ◌+◌, ◌*◌, ◌/◌, ◌%◌, List, [], ◌∷◌, ◌++◌, length, map}
+use Rattle.std.proofs.Common.{refl, sym, ap, ◌∙◌, arith}
 use Rattle.std.specs.Prelude.{slice_index_or}
 use Rattle.std.specs.List.{range_with_len, flat_map}
 use Rattle.std.proofs.Math.Nat.{mul-add-div, mul-add-mod_self_left, div-lt_iff_lt-mul}
@@ -58,7 +58,8 @@ behind lanes first rest a b all j k =
     mul-add-div j.some first k ∙ ap (λ n. n + k / lanes) (sym (j.front (k % lanes) lane)) in
     ap (λ l. slice_index_or (words_of all l) ((lanes * first + k) / lanes) 0) (mul-add-mod_self_left lanes first k)
     ∙ (ap (λ n. slice_index_or row n 0) at
-    ∙ (ap (λ (r : List ℕ). slice_index_or r (length (words_of a (k % lanes)) + k / lanes) 0) (j.each (k % lanes) lane)
+    ∙ (ap (λ (r : List ℕ). slice_index_or r (length (words_of a (k % lanes)) + k / lanes) 0)
+    (j.each (k % lanes) lane)
     ∙ get_or-append-add (words_of a (k % lanes)) (words_of b (k % lanes)) (k / lanes) 0))
 
 pub bytes_join : (lanes first rest : ℕ) (a b all : List (List ℕ)) → Joins lanes first rest a b all
@@ -80,9 +81,12 @@ bytes_join lanes first rest a b all j =
     ∙ (ap (flat_map two_bytes) (range_join (word_at lanes all) 0 n m)
     ∙ (flat_map-append two_bytes (map (word_at lanes all) (range_with_len 0 n))
     (map (word_at lanes all) (range_with_len (0 + n) m))
-    ∙ (ap (λ ws. flat_map two_bytes ws ++ flat_map two_bytes (map (word_at lanes all) (range_with_len (0 + n) m))) front
+    ∙ (ap (λ ws. flat_map two_bytes ws ++ flat_map two_bytes
+    (map (word_at lanes all) (range_with_len (0 + n) m))) front
     ∙ ap (λ ws. flat_map two_bytes (map (word_at lanes a) (range_with_len 0 n)) ++ flat_map two_bytes ws) back)))
 
 pub bytes_none : (lanes : ℕ) (words : List (List ℕ)) → word_bytes lanes 0 words ≡ []
 unfolding word_bytes
-bytes_none lanes words = ap (λ z. flat_map two_bytes (map (word_at lanes words) (range_with_len 0 z))) {x = lanes * 0} {y = 0} (omega arith)
+bytes_none lanes words =
+    ap (λ z. flat_map two_bytes (map (word_at lanes words) (range_with_len 0 z))) {x = lanes * 0} {y = 0}
+    (omega arith)

@@ -87,7 +87,8 @@ pub record StopsShort (p : PlanFacts) (pixels : List Pixel) (n : ℕ) : Type 0 w
   pub short : n < pixels_before (shown p) (clock + 1)
 
 -- what sending these pixels did, however it ended
-pub record Drives (p : PlanFacts) (pixels : List Pixel) (result : Result Sent DriveEnd) (pipe : PipeState) (before now : Option (List ℕ)) (ticker : TickerState) : Type 0 where
+pub record Drives (p : PlanFacts) (pixels : List Pixel) (result : Result Sent DriveEnd) (pipe : PipeState)
+    (before now : Option (List ℕ)) (ticker : TickerState) : Type 0 where
   pub sets : HandedFront p pixels pipe
   pub all_sets : OnOk result (HandedAll p pixels pipe)
   pub bytes : TakenFront p pixels before now

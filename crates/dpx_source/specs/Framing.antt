@@ -2,7 +2,7 @@
 use Rattle.std.specs.Prelude.{ℕ, ◌+◌, ◌/◌, ◌%◌, ◌<◌, ◌≡◌, Bool, List, [], ◌∷◌, slice_index, slice_index_or}
 use Rattle.dpx_base.specs.declared.lanes.Lanes.{Lanes}
 use Rattle.dpx_base.specs.declared.slot.Slot.{Slot}
-use Rattle.dpx_base.specs.declared.slot.Slot.TheVariants.{Fill, Group, VbId, Msa, Be, Valid, Stuff, Ended}
+use Rattle.dpx_base.specs.declared.slot.Slot.TheVariants.{Msa, Valid, Ended}
 use Rattle.dpx_base.specs.declared.sym.Sym.{Sym}
 use Rattle.dpx_base.specs.Attributes.{attributes_bytes, vb_id}
 use Rattle.dpx_base.specs.Code.{IsSymbol}

@@ -1,5 +1,5 @@
 -- How far sending has come: this project's own.
-use Rattle.std.specs.Prelude.{◌≡◌, ◌≤◌, ◌<◌, ◌+◌, ℕ, false, List, ◌++◌, length, map, Option, Some, None, IfSome, Result}
+use Rattle.std.specs.Prelude.{◌≡◌, ◌≤◌, ℕ, false, List, ◌++◌, length, map, Option, Some, None, IfSome, Result}
 use Rattle.std.specs.List.{range_with_len}
 use Rattle.dpx_base.specs.declared.pipe.PipeEnd.{PipeEnd}
 use Rattle.dpx_base.specs.declared.pipe.PipeEnd.TheVariants.{Ended as Short, Failed}
@@ -68,12 +68,14 @@ pub record Ends (p : PlanFacts) (end : DriveEnd) (pipe : PipeState) (before now 
   pub written : HasWrittenFront (lanes_count p.link.lanes) given before now
 
 -- a ticker, a pipe, the lanes and a sink after these sets
-pub record Sending (p : PlanFacts) (given : List (List Sym)) (pipe : PipeState) (ticker : TickerState) (rows : RowsFacts) (team : TeamFacts LaneTx) (before now : Option (List ℕ)) : Type 0 where
+pub record Sending (p : PlanFacts) (given : List (List Sym)) (pipe : PipeState) (ticker : TickerState)
+    (rows : RowsFacts) (team : TeamFacts LaneTx) (before now : Option (List ℕ)) : Type 0 where
   pub going : Going p given pipe ticker
   pub wrote : HasWritten rows team given before now
 
 -- What sending did, however it ended: there is a list of pixels, the pipe's own where it tells them, that was sent so.
-pub record IsDriven (p : PlanFacts) (result : Result Sent DriveEnd) (before now : PipeState) (taken_before taken : Option (List ℕ)) (ticker : TickerState) : Type 0 where
+pub record IsDriven (p : PlanFacts) (result : Result Sent DriveEnd) (before now : PipeState)
+    (taken_before taken : Option (List ℕ)) (ticker : TickerState) : Type 0 where
   pub pixels : List Pixel
   pub told : IfSome before.pixels (λ all. pixels ≡ all)
   pub drives : Drives p pixels result now taken_before taken ticker

@@ -1,6 +1,5 @@
 -- What a sender is seen as: this project's own.
-use Rattle.std.specs.Prelude.{◌≡◌, ℕ, false, List, [], replicate, None}
-use Rattle.dpx_base.specs.declared.pixel.Pixel.{Pixel}
+use Rattle.std.specs.Prelude.{◌≡◌, false, [], replicate, None}
 use Rattle.dpx_base.specs.Lanes.{lanes_count}
 use Rattle.dpx_lane.specs.declared.lane_tx.LaneTx.{LaneTx}
 use Rattle.dpx_lane.specs.Rows.{RowsFacts, no_rows}
@@ -21,4 +20,5 @@ pub record IsNew (s : SenderState) : Type 0 where
   pub stands : StandsFor [] s.ticker
   pub rows : s.rows ≡ no_rows s.ticker.plan.link.lanes
   pub lanes : s.team.lanes ≡ s.ticker.plan.link.lanes
-  pub team : TeamSent 0 s.team.states (replicate (lanes_count s.team.lanes) []) (replicate (lanes_count s.team.lanes) [])
+  pub team : TeamSent 0 s.team.states (replicate (lanes_count s.team.lanes) [])
+      (replicate (lanes_count s.team.lanes) [])

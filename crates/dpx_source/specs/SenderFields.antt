@@ -1,5 +1,4 @@
 -- How a sender keeps what is seen of it.
-use Rattle.std.specs.Prelude.{◌≡◌}
 use Rattle.dpx_source.specs.declared.sender.Sender.TheInside.{Inside}
 use Rattle.dpx_source.specs.Sender.{SenderState}
 use Rattle.dpx_source.specs.WordWriter.{IsWriter}

@@ -1,5 +1,5 @@
 -- What a writer of words has taken and written: this project's own.
-use Rattle.std.specs.Prelude.{◌≡◌, ℕ, ◌<◌, ◌≤◌, ◌-◌, ◌*◌, List, [], ◌++◌, length, map, replicate, Option}
+use Rattle.std.specs.Prelude.{◌≡◌, ℕ, ◌<◌, ◌-◌, ◌*◌, List, ◌++◌, length, map, replicate, Option}
 use Rattle.std.specs.List.{range_with_len}
 use Rattle.std.specs.Io.KnownBytes.{Appends}
 use Rattle.dpx_base.specs.Capture.{word_bytes}
@@ -29,7 +29,8 @@ abbrev pub rows_of : Lanes → List (List Sym) → RowsFacts
 rows_of lanes sets = record { lanes = lanes; rows = codes_of lanes sets; clocks = length sets }
 
 -- These sets were pushed: the words of the first of them are written, and the others wait in the rows.
-pub record HasWritten (rows : RowsFacts) (team : TeamFacts LaneTx) (given : List (List Sym)) (before now : Option (List ℕ)) : Type 0 where
+pub record HasWritten (rows : RowsFacts) (team : TeamFacts LaneTx) (given : List (List Sym))
+    (before now : Option (List ℕ)) : Type 0 where
   pub flushed : List (List Sym)
   pub waiting : List (List Sym)
   pub parts : given ≡ flushed ++ waiting

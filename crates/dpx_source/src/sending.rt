@@ -85,8 +85,8 @@ fn send_all<T: Pipe, O: Sink, G: Gate, R: Threads + Sync>(
     Ok(sent_of(ticker.plan()))
 }
 
-/// Sends all sets of the sender's plan: the pipe is handed each set, and `out` takes the bytes of their words. It takes
-/// no memory.
+/// Sends all sets of the sender's plan: the pipe is handed each set, and `out` takes the bytes of their words, batch by
+/// batch. Neither the workers nor the gate change what is sent. It takes no memory.
 pub fn drive<T: Pipe, O: Sink, G: Gate, R: Threads + Sync>(
     rt: &R,
     sender: &mut Sender,

@@ -1,4 +1,5 @@
-ghost use Rattle.std.specs.Prelude.{◌≡◌, ◌<◌, ◌≤◌, [], ◌∷◌, ◌++◌, ◌-◌, ◌*◌, ℕ, List, length, replicate, take, Option, IfOk, OnOk, OnErr};
+ghost use Rattle.std.specs.Prelude.{◌≡◌, ◌<◌, ◌≤◌, ◌-◌, ◌*◌, ◌++◌, ◌∷◌, [], ℕ, List, length, replicate, take};
+ghost use Rattle.std.specs.Prelude.{Option, IfOk, OnOk, OnErr};
 ghost use Rattle.dpx_base.specs.declared.sym.Sym.{Sym};
 ghost use Rattle.dpx_base.specs.Capture.{word_bytes};
 ghost use Rattle.dpx_base.specs.Faults.{HasCause};

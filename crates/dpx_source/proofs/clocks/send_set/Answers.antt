@@ -1,5 +1,4 @@
-use Rattle.std.proofs.Common.{◌≡◌, ◌<◌, ℕ, List, Option, None, Some, arith, ap, sym, ◌∙◌}
-use Rattle.dpx_base.specs.declared.sym.Sym.{Sym}
+use Rattle.std.proofs.Common.{Option, arith, ap, sym, ◌∙◌}
 use Rattle.dpx_base.specs.Mode.{depth_bits}
 use Rattle.dpx_source.specs.declared.bad_pixel.BadPixel.{BadPixel}
 use Rattle.dpx_source.specs.Pixels.{first_bad}
@@ -23,7 +22,8 @@ returns-in-Ok-absorb-clause-going g c given going =
     let same = c.emit.ensures.same in
     let none = ap (λ (t : TickerState). t.refusal) same ∙ c.requires.ready.refusal in
     let depth = depth_bits c.args.ticker.now.plan.mode.depth in
-    let bad : TickerState → Option BadPixel = λ t. first_bad (depth_bits t.plan.mode.depth) t.absorbed c.in-Ok.arrivals in
+    let bad : TickerState → Option BadPixel =
+    λ t. first_bad (depth_bits t.plan.mode.depth) t.absorbed c.in-Ok.arrivals in
     let good = sym (ap bad same ∙ ap (λ n. first_bad depth n c.in-Ok.arrivals) going.stands.absorbed)
     ∙ refused_none _ _ (c.in-Ok-absorb.ensures.exact none) in
     going_more _ given _ _ _ _ _ _ going c.in-Ok.ensures.clocked
@@ -39,7 +39,8 @@ returns-in-Err-absorb-clause-stopped g c given going =
     let same = c.emit.ensures.same in
     let none = ap (λ (t : TickerState). t.refusal) same ∙ c.requires.ready.refusal in
     let depth = depth_bits c.args.ticker.now.plan.mode.depth in
-    let bad : TickerState → Option BadPixel = λ t. first_bad (depth_bits t.plan.mode.depth) t.absorbed c.in-Ok.arrivals in
+    let bad : TickerState → Option BadPixel =
+    λ t. first_bad (depth_bits t.plan.mode.depth) t.absorbed c.in-Ok.arrivals in
     let is = sym (ap bad same ∙ ap (λ n. first_bad depth n c.in-Ok.arrivals) going.stands.absorbed)
     ∙ refused_some _ _ (c.in-Err-absorb.ensures.exact none) in
     stop_bad _ given _ _ _ _ _ c.in-Err-absorb.bad going c.in-Ok.ensures.clocked

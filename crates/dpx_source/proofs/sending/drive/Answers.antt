@@ -1,6 +1,3 @@
-use Rattle.std.proofs.Common.{◌≡◌, subst, sym, ap, ◌∙◌}
-use Rattle.dpx_base.specs.Plan.{PlanFacts}
-use Rattle.dpx_source.specs.Sender.{SenderState}
 use Rattle.dpx_source.proofs.Endings.{some_map, told_drives, whole_ends}
 use Rattle.dpx_source.proofs.sending.drive.Goals as goal
 

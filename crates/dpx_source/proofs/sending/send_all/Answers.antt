@@ -1,4 +1,4 @@
-use Rattle.std.proofs.Common.{◌≡◌, ◌≤◌, ◌<◌, ◌+◌, ℕ, List, ◌++◌, ◌∷◌, [], length, arith, ap, sym, subst, ◌∙◌, refl}
+use Rattle.std.proofs.Common.{◌≡◌, ◌+◌, ◌++◌, ◌∷◌, [], length, arith, ap, sym, subst, ◌∙◌, refl}
 use Rattle.std.proofs.lemmas.Result.{err_from_is_err_and}
 use Rattle.dpx_base.specs.Plan.{PlanFacts, IsPlan, clocks}
 use Rattle.dpx_lane.specs.Rows.{RowsFacts}
@@ -41,7 +41,8 @@ returns-in_err-send_clock-clause-driven g c =
     let at = c.loop-done in
     let sending = subst (λ (p : PlanFacts). Sending p i.given (g.T.Pipe.state at.pipe) at.ticker at.writer.rows
     at.writer.team taken (g.O.Sink.seen at.out).taken) (sym i.plan) i.sending in
-    let ends = subst (λ (p : PlanFacts). Ends p c.in_err-send_clock.field-0.0 (g.T.Pipe.state c.send_clock.new.pipe) taken
+    let ends =
+    subst (λ (p : PlanFacts). Ends p c.in_err-send_clock.field-0.0 (g.T.Pipe.state c.send_clock.new.pipe) taken
     (g.O.Sink.seen c.send_clock.new.out).taken) i.plan (e.ends i.given taken sending) in
     rw (p.1, p.2) (driven_err _ _ _ _ _ _ _ (e.pixels ∙ i.pixels) ends)
 
@@ -85,7 +86,8 @@ returns-then-is_err-clause-driven g c =
       c.clocks-clocks.ensures.value,
       ap clocks c.plan.ensures,
     ) in
-    driven_write _ i.given _ _ _ _ _ _ c.loop-done.writer.team.lanes (i.lanes ∙ c.requires.new.lanes) i.sending.going size
+    driven_write _ i.given _ _ _ _ _ _ c.loop-done.writer.team.lanes
+    (i.lanes ∙ c.requires.new.lanes) i.sending.going size
     i.pixels front
 
 pub returns-clause-driven : goal.returns-clause-driven
@@ -104,5 +106,6 @@ returns-clause-driven g c =
       c.clocks-clocks.ensures.value,
       ap clocks c.plan.ensures,
     ) in
-    driven_ok _ c.sent_of.result i.given _ _ _ _ _ c.loop-done.writer.team.lanes plan (i.lanes ∙ c.requires.new.lanes)
+    driven_ok _ c.sent_of.result i.given _ _ _ _ _ c.loop-done.writer.team.lanes plan
+    (i.lanes ∙ c.requires.new.lanes)
     i.sending.going size i.pixels all

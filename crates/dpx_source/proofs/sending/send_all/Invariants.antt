@@ -1,4 +1,4 @@
-use Rattle.std.proofs.Common.{◌≡◌, ◌<◌, ℕ, List}
+use Rattle.std.proofs.Common.{◌≡◌, ◌<◌, List}
 use Rattle.dpx_base.specs.declared.sym.Sym.{Sym}
 use Rattle.dpx_source.specs.Going.{IsReady, Sending}
 use Rattle.dpx_source.specs.WordWriter.{IsWriter}

@@ -1,4 +1,4 @@
-use Rattle.std.proofs.Common.{◌++◌, [], length, true, sym, ap, arith, ◌∙◌, refl}
+use Rattle.std.proofs.Common.{◌++◌, [], length, sym, ap, arith, ◌∙◌, refl}
 use Rattle.dpx_base.specs.Sets.{bytes_at}
 use Rattle.dpx_source.specs.Framing.{HasNoBytes}
 use Rattle.dpx_source.specs.Inside.{state_of}

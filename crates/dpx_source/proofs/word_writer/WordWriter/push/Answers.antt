@@ -1,7 +1,4 @@
-use Rattle.std.proofs.Common.{◌≡◌, ℕ, ◌++◌, ◌∷◌, [], refl, sym, ap, ◌∙◌}
-use Rattle.dpx_base.specs.Words.{words_of}
-use Rattle.dpx_lane.specs.Codes.{AllCodes}
-use Rattle.dpx_lane.specs.Rows.{RowsFacts}
+use Rattle.std.proofs.Common.{◌++◌, ◌∷◌, []}
 use Rattle.dpx_source.proofs.Batches.{written_push}
 use Rattle.dpx_source.proofs.Writers.{writer_push}
 use Rattle.dpx_source.proofs.word_writer.WordWriter.push.Goals as goal

@@ -1,9 +1,7 @@
-use Rattle.std.proofs.Common.{◌≡◌, ℕ, List, length, take, refl, sym, ap, ◌∙◌}
-use Rattle.std.specs.Io.KnownBytes.{Appends}
+use Rattle.std.proofs.Common.{◌≡◌, ℕ, List, length, sym, ap, ◌∙◌}
 use Rattle.dpx_base.specs.Capture.{word_bytes}
 use Rattle.dpx_base.specs.Lanes.{lanes_count}
 use Rattle.dpx_base.specs.declared.lanes.Lanes.{Lanes}
-use Rattle.dpx_source.specs.Transfer.{AppendsFront}
 use Rattle.dpx_source.proofs.Appending.{put_back}
 use Rattle.dpx_source.proofs.Batches.{each_takes, batch_written, batch_front}
 use Rattle.dpx_source.proofs.Outcomes.{on_ok, on_err}
@@ -17,8 +15,11 @@ returns-clause-wrote g c given before wrote =
     let rows = c.run.new.rows in
     let same = c.run.ensures.rows_lanes ∙ c.requires.writer.lanes in
     let new = c.put_words-size.new.bytes in
-    let len = sym c.deref_mut.ensures.len ∙ (ap length c.deref_mut.ensures.value ∙ (c.requires.writer.room ∙ sym c.put_words-size.ensures.room)) in
-    let there : c.deref.result.now ≡ new = c.deref.ensures.value ∙ put_back c.args.self.now.bytes.len new c.args.self.now.bytes.items len in
+    let len =
+    sym c.deref_mut.ensures.len
+    ∙ (ap length c.deref_mut.ensures.value ∙ (c.requires.writer.room ∙ sym c.put_words-size.ensures.room)) in
+    let there : c.deref.result.now ≡ new =
+    c.deref.ensures.value ∙ put_back c.args.self.now.bytes.len new c.args.self.now.bytes.items len in
     let words : Lanes → List ℕ = λ l. word_bytes (lanes_count l) rows.clocks rows.rows in
     let bytes = c.put_words-size.ensures.words ∙ ap words same in
     let size = c.put_words-size.ensures.lanes ∙ ap lanes_count same in
@@ -33,8 +34,11 @@ returns-clause-front g c given before wrote =
     let rows = c.run.new.rows in
     let same = c.run.ensures.rows_lanes ∙ c.requires.writer.lanes in
     let new = c.put_words-size.new.bytes in
-    let len = sym c.deref_mut.ensures.len ∙ (ap length c.deref_mut.ensures.value ∙ (c.requires.writer.room ∙ sym c.put_words-size.ensures.room)) in
-    let there : c.deref.result.now ≡ new = c.deref.ensures.value ∙ put_back c.args.self.now.bytes.len new c.args.self.now.bytes.items len in
+    let len =
+    sym c.deref_mut.ensures.len
+    ∙ (ap length c.deref_mut.ensures.value ∙ (c.requires.writer.room ∙ sym c.put_words-size.ensures.room)) in
+    let there : c.deref.result.now ≡ new =
+    c.deref.ensures.value ∙ put_back c.args.self.now.bytes.len new c.args.self.now.bytes.items len in
     let words : Lanes → List ℕ = λ l. word_bytes (lanes_count l) rows.clocks rows.rows in
     let bytes = c.put_words-size.ensures.words ∙ ap words same in
     let size = c.put_words-size.ensures.lanes ∙ ap lanes_count same in
