@@ -2,6 +2,7 @@ pub mod Absorbs
 pub mod ActiveLines
 pub mod AllArrived
 pub mod AllSent
+pub mod AllSymbols
 pub mod Appending
 pub mod Arrived
 pub mod Batches
@@ -23,4 +24,5 @@ pub mod Sums
 pub mod Table
 pub mod SetSymbols
 pub mod WordBytes
+pub mod WordsThere
 pub mod Writers

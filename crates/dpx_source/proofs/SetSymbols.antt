@@ -1,14 +1,14 @@
 -- The symbols of sets are data and the nine control symbols.
-use Rattle.std.proofs.Common.{ℕ, zero, suc, ◌+◌, ◌*◌, ◌/◌, ◌%◌, ◌<◌, Bool, true, false, List, [], ◌∷◌, map, length}
+use Rattle.std.proofs.Common.{◌≡◌, ℕ, zero, suc, ◌+◌, ◌*◌, ◌/◌, ◌%◌, ◌<◌, Bool, true, false, List, [], ◌∷◌, map, length}
 use Rattle.std.proofs.Common.{replicate, refl, arith}
 use Rattle.std.specs.Prelude.{◌-◌, if◌then◌else◌, nat_lt, slice_index}
 use Rattle.std.specs.Int.{bit_at}
 use Rattle.std.specs.List.{range_with_len}
 use Rattle.std.proofs.lemmas.Nat.Bits.{bit_at-lt}
 use Rattle.dpx_base.specs.declared.sym.Sym.{Sym}
-use Rattle.dpx_base.specs.Code.{IsSymbol, is_control, is_among, control_words}
+use Rattle.dpx_base.specs.Code.{IsSymbol, is_control}
 use Rattle.dpx_base.specs.Packing.{Line, line_bit, line_byte, component, number_of}
-use Rattle.dpx_base.specs.Symbols.{data_symbol, control_symbol, bs, be, sr, bf, ss, se, fs, fe}
+use Rattle.dpx_base.specs.Symbols.{data_symbol, control_symbol}
 use Rattle.dpx_base.specs.Words.{fill}
 use Rattle.dpx_source.specs.Framing.{AreSymbols}
 
@@ -61,34 +61,5 @@ pub byte_small : (line : Line) (lane j : ℕ) → line_byte line lane j < 256
 unfolding line_byte
 byte_small line lane j = eight_bits (line_bit line lane) (8 * j) (bit_small line lane)
 
-pub bs_symbol : IsSymbol (control_symbol bs)
-unfolding is_control is_among control_words
-bs_symbol = (omega arith, refl)
-
-pub be_symbol : IsSymbol (control_symbol be)
-unfolding is_control is_among control_words
-be_symbol = (omega arith, refl)
-
-pub sr_symbol : IsSymbol (control_symbol sr)
-unfolding is_control is_among control_words
-sr_symbol = (omega arith, refl)
-
-pub bf_symbol : IsSymbol (control_symbol bf)
-unfolding is_control is_among control_words
-bf_symbol = (omega arith, refl)
-
-pub ss_symbol : IsSymbol (control_symbol ss)
-unfolding is_control is_among control_words
-ss_symbol = (omega arith, refl)
-
-pub se_symbol : IsSymbol (control_symbol se)
-unfolding is_control is_among control_words
-se_symbol = (omega arith, refl)
-
-pub fs_symbol : IsSymbol (control_symbol fs)
-unfolding is_control is_among control_words
-fs_symbol = (omega arith, refl)
-
-pub fe_symbol : IsSymbol (control_symbol fe)
-unfolding is_control is_among control_words
-fe_symbol = (omega arith, refl)
+pub control_is : (byte : ℕ) → byte < 256 → is_control byte ≡ true → IsSymbol (control_symbol byte)
+control_is byte small known = (small, known)

@@ -36,7 +36,7 @@ const FS: u8 = 0xfe;
 const FE: u8 = 0xf7;
 
 /// A symbol of the group that begins a header.
-#[tactic(auto, using(crate::proofs::SetSymbols::bf_symbol, crate::proofs::SetSymbols::sr_symbol, crate::proofs::SetSymbols::bs_symbol))]
+#[tactic(auto, unfolding(dpx_base::specs::Code::is_control, dpx_base::specs::Code::is_among, dpx_base::specs::Code::control_words))]
 fn group_symbol(index: u8, reset: bool) -> Sym
     ensures value { result ≡ group_symbol index reset }
     ensures symbol { IsSymbol result }
@@ -63,7 +63,7 @@ impl Framing {
     }
 
     /// The set of a slot.
-    #[tactic(auto, using(crate::proofs::SetSymbols::be_symbol, crate::proofs::SetSymbols::fs_symbol, crate::proofs::SetSymbols::fe_symbol), unfolding(dpx_base::specs::Sets::set_of))]
+    #[tactic(auto, unfolding(dpx_base::specs::Sets::set_of, dpx_base::specs::Code::is_control, dpx_base::specs::Code::is_among, dpx_base::specs::Code::control_words))]
     pub(crate) fn set(&self, slot: Slot) -> LaneSet
         requires { IsIndexed self.now.lanes slot }
         ensures value { (p : PlanFacts) (bytes : List ℕ) → IsFraming p self.now → HasNoBytes slot
@@ -128,7 +128,7 @@ impl Framing {
     }
 
     /// What a lane carries of the attributes at an index.
-    #[tactic(auto, using(crate::proofs::SetSymbols::ss_symbol, crate::proofs::SetSymbols::se_symbol))]
+    #[tactic(auto, unfolding(dpx_base::specs::Code::is_control, dpx_base::specs::Code::is_among, dpx_base::specs::Code::control_words))]
     fn attribute(&self, lane: u8, index: u8) -> Sym
         requires index { index < 3 + 36 / lanes_count self.now.lanes }
         requires lane { lane < lanes_count self.now.lanes }

@@ -1,7 +1,10 @@
 ghost use Rattle.std.specs.Prelude.{◌≡◌, ℕ, List, false};
 ghost use Rattle.dpx_base.specs.declared.pixel.Pixel.{Pixel};
+ghost use Rattle.dpx_base.specs.Lanes.{lanes_count};
 ghost use Rattle.dpx_base.specs.Pipe.{PipeState, IsBegun};
 ghost use Rattle.dpx_base.specs.Plan.{PlanFacts, IsPlan, clocks};
+ghost use Rattle.dpx_base.specs.Sets.{sets};
+ghost use Rattle.dpx_base.specs.Words.{SentWords};
 ghost use Rattle.dpx_source.specs.Drive.{HasBegun, IsWhole, StopsBad, StopsShort};
 ghost use Rattle.dpx_source.specs.Ticker.{StandsFor, shown};
 ghost use Rattle.dpx_source.specs.Waiting.{BytesWait};
@@ -30,4 +33,10 @@ pub fn sending_ends_once()
         → IsWhole p pixels → ⊥ }
     ensures bad_not_short { (p : PlanFacts) (pixels : List Pixel) (number value n : ℕ)
         → StopsBad p pixels number value → StopsShort p pixels n → ⊥ }
+{}
+
+/// The sets of a plan's frames have words, and so they have a capture, whatever the pixels are.
+pub fn words_are_there()
+    ensures { (p : PlanFacts) (pixels : List Pixel) → IsPlan p
+        → (words : List (List ℕ)) × SentWords (lanes_count p.link.lanes) (sets p pixels) words }
 {}

@@ -20,7 +20,7 @@ mod transfer;
 mod word_writer;
 
 pub use bad_pixel::BadPixel;
-pub use laws::{bytes_wait, pipes_begin, sending_ends_once};
+pub use laws::{bytes_wait, pipes_begin, sending_ends_once, words_are_there};
 pub use sender::Sender;
 pub use sending::{DriveEnd, Sent, drive};
 pub use ticker::Ticker;
