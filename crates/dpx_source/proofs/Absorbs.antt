@@ -1,5 +1,5 @@
 -- A ticker that takes its clock's arrivals.
-use Rattle.std.proofs.Common.{◌≡◌, ℕ, zero, suc, ◌<◌, ◌≤◌, ◌+◌, ◌-◌, ◌*◌, ◌^◌, List, [], ◌∷◌, ◌++◌, length}
+use Rattle.std.proofs.Common.{◌≡◌, ℕ, zero, suc, ◌<◌, ◌≤◌, ◌+◌, ◌^◌, List, [], ◌∷◌, ◌++◌, length}
 use Rattle.std.proofs.Common.{length-append}
 use Rattle.std.proofs.Common.{refl, sym, ap, arith, ◌∙◌, true, false, inl, inr, All, Option, Some, None, nat_le}
 use Rattle.std.proofs.Common.{slice_get, get_or, drop, drop-cons}

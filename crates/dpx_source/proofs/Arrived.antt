@@ -9,7 +9,7 @@ use Rattle.std.proofs.Math.Nat.{div-add-mod, mod-lt, mul-le-mul_right}
 use Rattle.dpx_base.specs.Beam.{is_pixel, pixels_among, pixels_before}
 use Rattle.dpx_base.specs.Mode.{ModeFacts}
 use Rattle.dpx_base.specs.Plan.{PlanFacts, IsPlan, timing, lines}
-use Rattle.dpx_base.specs.Timing.{Timing, ticks, arrived, first_tick, floor_div}
+use Rattle.dpx_base.specs.Timing.{ticks, arrived, first_tick}
 use Rattle.dpx_timing.proofs.Arrivals.{ticks_same}
 use Rattle.dpx_source.specs.LineSums.{total, active_line, active_lines}
 use Rattle.dpx_source.specs.Ticker.{shown}

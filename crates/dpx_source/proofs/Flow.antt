@@ -1,23 +1,20 @@
 -- What goes out and what waits, over all lines.
-use Rattle.std.proofs.Common.{ℕ, zero, suc, ◌+◌, ◌-◌, ◌*◌, ◌/◌, ◌%◌, ◌<◌, ◌≤◌, ◌≡◌, ◌⊎◌, arith, ap, inl, inr, refl, sym}
-use Rattle.std.proofs.Common.{nat_lt, if◌then◌else◌}
+use Rattle.std.proofs.Common.{ℕ, zero, suc, ◌+◌, ◌-◌, ◌*◌, ◌<◌, ◌≤◌, ◌≡◌, arith, inl, inr, refl}
 use Rattle.std.proofs.lemmas.Bool.{cases_lt, cases_order}
-use Rattle.std.proofs.lemmas.Bool.Decides.{nat_tests}
-use Rattle.dpx_base.specs.Timing.{Timing, IsPossible, IsFit, symbols, start, line_end, gap, bound, arrived}
+use Rattle.dpx_base.specs.Timing.{Timing, IsPossible, IsFit, symbols, start, line_end, bound, arrived}
 use Rattle.dpx_base.specs.Timing.{arrived_bytes, place, sent, sent_among, waiting}
 use Rattle.dpx_source.specs.LineSums.{total}
-use Rattle.dpx_buffer.specs.Buffer.{bytes_whole}
 use Rattle.dpx_source.proofs.Ready.{IsPlace}
-use Rattle.dpx_timing.proofs.Short.{arrived_most, line_never_short}
+use Rattle.dpx_timing.proofs.Short.{line_never_short}
 use Rattle.dpx_timing.proofs.Short.{bytes_whole as whole_line}
-use Rattle.dpx_timing.proofs.Over.{bytes_most, line_never_over}
+use Rattle.dpx_timing.proofs.Over.{line_never_over}
 use Rattle.dpx_timing.proofs.Units.{place_rises, place_strict, place_from}
-use Rattle.dpx_timing.proofs.Lines.{start_gap, start_rises, sent_by_end, one_line_waits, last_place, symbols_pos}
+use Rattle.dpx_timing.proofs.Lines.{start_gap, start_rises, sent_by_end, one_line_waits, last_place}
 use Rattle.dpx_timing.proofs.Counts.{sent_step, sent_stays}
-use Rattle.dpx_timing.proofs.Holds.{sent_out, sent_all, sent_is}
-use Rattle.dpx_source.proofs.Sums.{total_same, total_full, total_past, total_more, total_at, total_le, total_less}
+use Rattle.dpx_timing.proofs.Holds.{sent_is}
+use Rattle.dpx_source.proofs.Sums.{total_same, total_full, total_more, total_at, total_le, total_less}
 use Rattle.dpx_source.proofs.Sums.{total_one}
-use Rattle.dpx_source.proofs.Order.{sent_few, arrived_in_order, no_bytes, bytes_of_all}
+use Rattle.dpx_source.proofs.Order.{sent_few, arrived_in_order, no_bytes}
 
 -- an earlier line has ended when a later one begins
 pub earlier_ended : (r : Timing) (line later : ℕ) → IsPossible r → IsFit r → line < later

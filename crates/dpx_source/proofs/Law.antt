@@ -1,5 +1,5 @@
 -- The line that waits.
-use Rattle.std.proofs.Common.{◌≡◌, ℕ, zero, suc, ◌<◌, ◌≤◌, ◌+◌, ◌-◌, ◌*◌, ◌⊎◌, List, [], length, refl, sym, ap, arith}
+use Rattle.std.proofs.Common.{◌≡◌, ℕ, ◌<◌, ◌≤◌, ◌+◌, ◌-◌, ◌*◌, ◌⊎◌, List, [], length, refl, sym, ap, arith}
 use Rattle.std.proofs.Common.{◌∙◌, false, inl, inr}
 use Rattle.std.proofs.lemmas.Bool.{cases_lt}
 use Rattle.dpx_base.specs.declared.pixel.Pixel.{Pixel}
@@ -10,19 +10,18 @@ use Rattle.dpx_base.specs.Sets.{line_of}
 use Rattle.dpx_base.specs.Timing.{Timing, IsPossible, IsFit, symbols, arrived, arrived_bytes, sent, waiting}
 use Rattle.dpx_source.specs.LineSums.{total, active_line, active_lines, sent_before}
 use Rattle.dpx_buffer.specs.Buffer.{bytes_whole}
-use Rattle.dpx_timing.proofs.Short.{arrived_most}
 use Rattle.dpx_timing.proofs.Short.{bytes_whole as whole_line}
 use Rattle.dpx_timing.proofs.Over.{bytes_most}
-use Rattle.dpx_timing.proofs.Holds.{sent_all, sent_out}
+use Rattle.dpx_timing.proofs.Holds.{sent_out}
 use Rattle.dpx_timing.proofs.Lines.{one_line_waits, sent_by_end}
 use Rattle.dpx_timing.proofs.Units.{place_from}
 use Rattle.dpx_pack.specs.Positions.{span}
 use Rattle.dpx_pack.proofs.Spans.{span-same, span-none}
 use Rattle.dpx_buffer.specs.Lane.{lane_of}
-use Rattle.dpx_buffer.specs.Buffer.{Holds, lane_byte, line_in}
+use Rattle.dpx_buffer.specs.Buffer.{lane_byte, line_in}
 use Rattle.dpx_buffer.proofs.Stable.{byte_is, lane_byte_at}
 use Rattle.dpx_source.proofs.Ready.{IsReady}
-use Rattle.dpx_source.specs.Ticker.{TickerState, StandsFor, IsTicker, sets_given}
+use Rattle.dpx_source.specs.Ticker.{TickerState, StandsFor, sets_given}
 use Rattle.dpx_source.proofs.Order.{sent_few, arrived_in_order, no_bytes}
 use Rattle.dpx_source.proofs.Sums.{total_at, total_le}
 use Rattle.dpx_source.proofs.Stands.{rises, whole_is, same_line, sent_is_total}

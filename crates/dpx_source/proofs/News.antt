@@ -1,7 +1,6 @@
 -- A new ticker.
-use Rattle.std.proofs.Common.{◌≡◌, ℕ, ◌<◌, ◌≤◌, ◌+◌, ◌*◌, ◌^◌, [], refl, sym, arith, ◌∙◌, false, None}
+use Rattle.std.proofs.Common.{◌≡◌, ◌<◌, ◌^◌, [], refl, sym, arith, ◌∙◌, false, None}
 use Rattle.dpx_base.proofs.Beams.{pixels_first}
-use Rattle.dpx_base.specs.Beam.{pixels_before}
 use Rattle.dpx_base.specs.Plan.{PlanFacts, IsPlan, timing, clocks}
 use Rattle.dpx_base.specs.Timing.{sent}
 use Rattle.dpx_timing.proofs.Holds.{sent_is}

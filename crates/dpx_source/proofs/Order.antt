@@ -1,11 +1,10 @@
 -- Lines in order: their pixels arrive one line after the other, and so do their bytes.
-use Rattle.std.proofs.Common.{ℕ, zero, suc, ◌+◌, ◌-◌, ◌*◌, ◌/◌, ◌%◌, ◌<◌, ◌≤◌, ◌≡◌, ◌⊎◌, arith, ap, inl, inr, refl, sym}
-use Rattle.std.proofs.Common.{min}
-use Rattle.std.proofs.Math.Nat.{mul-le-mul_right, mul-le-mul_left, div-add-mod, mod-lt}
-use Rattle.std.proofs.lemmas.Bool.{cases_lt, cases_order}
+use Rattle.std.proofs.Common.{ℕ, zero, suc, ◌+◌, ◌*◌, ◌<◌, ◌≤◌, ◌≡◌, arith, inl, inr, refl}
+use Rattle.std.proofs.Math.Nat.{mul-le-mul_right}
+use Rattle.std.proofs.lemmas.Bool.{cases_lt}
 use Rattle.std.proofs.lemmas.Nat.{div-mul-add, mod-mul-add}
 use Rattle.dpx_base.specs.Timing.{Timing, IsPossible, IsFit, floor_div, symbols, ticks, first_tick, arrived}
-use Rattle.dpx_base.specs.Timing.{arrived_bytes, place, sent, sent_among, waiting}
+use Rattle.dpx_base.specs.Timing.{arrived_bytes, place, sent}
 use Rattle.dpx_source.specs.LineSums.{total}
 use Rattle.dpx_buffer.specs.Buffer.{bytes_whole}
 use Rattle.dpx_timing.proofs.Floors.{floor_rises, floor_is}
@@ -13,7 +12,7 @@ use Rattle.dpx_timing.proofs.Short.{bytes_part, arrived_most, line_never_short}
 use Rattle.dpx_timing.proofs.Short.{bytes_whole as whole_line}
 use Rattle.dpx_timing.proofs.Over.{bytes_most}
 use Rattle.dpx_timing.proofs.Holds.{sent_out, sent_all}
-use Rattle.dpx_source.proofs.Sums.{total_full, total_past, total_more, total_at}
+use Rattle.dpx_source.proofs.Sums.{total_full, total_more}
 
 pub ticks_rise : (r : Timing) (t u : ℕ) → IsPossible r → t ≤ u → ticks r t ≤ ticks r u
 unfolding ticks

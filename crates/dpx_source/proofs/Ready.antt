@@ -1,5 +1,5 @@
 -- What a ticker needs of its plan.
-use Rattle.std.proofs.Common.{ℕ, ◌<◌, ◌≤◌, ◌≡◌, List}
+use Rattle.std.proofs.Common.{ℕ, ◌<◌, ◌≡◌, List}
 use Rattle.dpx_base.specs.declared.pixel.Pixel.{Pixel}
 use Rattle.dpx_base.specs.declared.slot.Slot.TheVariants.{Valid}
 use Rattle.dpx_base.specs.Mode.{IsLegal}

@@ -1,34 +1,31 @@
 -- A ticker goes from clock to clock.
-use Rattle.std.proofs.Common.{◌≡◌, ℕ, zero, suc, ◌<◌, ◌≤◌, ◌+◌, ◌-◌, ◌*◌, ◌/◌, ◌%◌, List, [], ◌∷◌, ◌++◌, length}
-use Rattle.std.proofs.Common.{length-append, refl, sym, ap, arith, ◌∙◌, map, slice_index_or, true, false, Bool}
+use Rattle.std.proofs.Common.{◌≡◌, ℕ, ◌<◌, ◌≤◌, ◌+◌, ◌-◌, ◌*◌, ◌/◌, ◌%◌, List, ◌++◌, length}
+use Rattle.std.proofs.Common.{refl, sym, ap, arith, ◌∙◌, map, slice_index_or}
 use Rattle.std.specs.List.{range_with_len}
-use Rattle.std.proofs.lemmas.Nat.{div-mul-add, mod-mul-add}
-use Rattle.std.proofs.Math.Nat.{div-add-mod, mod-lt, mul-le-mul_right}
+use Rattle.std.proofs.Math.Nat.{div-add-mod}
 use Rattle.dpx_base.specs.declared.pixel.Pixel.{Pixel}
 use Rattle.dpx_base.specs.Lanes.{lanes_count}
-use Rattle.dpx_base.specs.Mode.{depth_bits, pixel_bits}
+use Rattle.dpx_base.specs.Mode.{depth_bits}
 use Rattle.dpx_base.specs.Packing.{Line, line_byte}
-use Rattle.dpx_base.specs.Plan.{PlanFacts, timing, clocks}
+use Rattle.dpx_base.specs.Plan.{PlanFacts, timing}
 use Rattle.dpx_base.specs.Sets.{black, first_pixel, line_of, line_bytes}
-use Rattle.dpx_base.specs.Timing.{Timing, IsPossible, IsFit, symbols, floor_div, bound, arrived, arrived_bytes, sent}
-use Rattle.dpx_source.specs.LineSums.{total, line_at, active_line, active_lines, sent_before}
+use Rattle.dpx_base.specs.Timing.{symbols, bound, arrived_bytes, sent}
+use Rattle.dpx_source.specs.LineSums.{total, active_line, active_lines, sent_before}
 use Rattle.dpx_buffer.specs.Buffer.{bytes_whole}
-use Rattle.dpx_timing.proofs.Floors.{floor_low}
 use Rattle.dpx_pack.specs.Positions.{span}
-use Rattle.dpx_pack.proofs.Spans.{span-same, length-span}
+use Rattle.dpx_pack.proofs.Spans.{span-same}
 use Rattle.dpx_buffer.specs.Lane.{lane_of}
 use Rattle.dpx_buffer.specs.Buffer.{BufferState, Holds, line_in, lane_byte}
 use Rattle.dpx_buffer.proofs.Room.{waiting_count}
 use Rattle.dpx_buffer.proofs.Stable.{byte_stable, byte_is, lane_byte_at}
-use Rattle.dpx_source.proofs.Ready.{IsPlace, IsDue, IsReady}
+use Rattle.dpx_source.proofs.Ready.{IsDue, IsReady}
 use Rattle.dpx_base.specs.Beam.{pixels_before}
 use Rattle.dpx_timing.proofs.Sizes.{bound_small}
 use Rattle.dpx_source.specs.Ticker.{shown}
 use Rattle.dpx_source.proofs.Arrived.{arrived_is}
 use Rattle.dpx_source.proofs.ActiveLines.{line_rises, active_row, active_frame}
-use Rattle.dpx_source.proofs.Sums.{total_le}
 use Rattle.dpx_source.proofs.Order.{bytes_of_all}
-use Rattle.dpx_source.proofs.Flow.{sent_at_place, sent_past_place, sent_no_place, arrived_at_place, sent_le, waits_few}
+use Rattle.dpx_source.proofs.Flow.{sent_at_place, sent_past_place, sent_no_place, arrived_at_place, waits_few}
 
 pub rises : (p : PlanFacts) → IsReady p → (i k : ℕ) → i < k → active_line p i < active_line p k
 rises p ready = line_rises p.mode.height p.mode.vtotal ready.mode.height.0 (omega (arith, ready.mode.vtotal))

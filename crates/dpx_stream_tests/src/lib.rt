@@ -1,4 +1,4 @@
-//! Tests of layers of the main link: the schedule, the ticker, and the reader of sets.
+//! Tests of layers of the main link: the schedule, the ticker, whole sends, and the reader of sets.
 #![tactic(auto)]
 
 #[cfg(test)]
@@ -7,5 +7,7 @@ mod frame;
 mod modes;
 #[cfg(test)]
 mod parse;
+#[cfg(test)]
+mod send;
 #[cfg(test)]
 mod source;

@@ -1,4 +1,4 @@
-use Rattle.std.proofs.Common.{◌++◌, sym, ap, arith, ◌∙◌}
+use Rattle.std.proofs.Common.{ap, arith, ◌∙◌}
 use Rattle.dpx_base.specs.Mode.{ModeFacts}
 use Rattle.dpx_source.specs.Inside.{state_of}
 use Rattle.dpx_source.proofs.Absorbs.{absorbing, absorbs_range, absorbs_room, absorbs_stands, absorbs_ticker, given_now}
