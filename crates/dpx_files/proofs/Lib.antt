@@ -1,5 +1,6 @@
 pub mod Answers
 pub mod Depths
+pub mod Fitting
 pub mod Generated
 pub mod Headers
 pub mod InDepth

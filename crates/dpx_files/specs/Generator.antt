@@ -8,6 +8,7 @@ use Rattle.dpx_base.specs.declared.link.Link.{Link}
 use Rattle.dpx_base.specs.declared.pixel.Pixel.{Pixel}
 use Rattle.dpx_base.specs.declared.rate.Rate.TheVariants.{Rbr, Hbr, Hbr3}
 use Rattle.dpx_base.specs.Mode.{depth_bits}
+use Rattle.dpx_base.specs.Plan.{PlanFacts}
 use Rattle.dpx_files.specs.declared.generator.Sample.{Sample}
 use Rattle.dpx_files.specs.declared.shape.Shape.{Shape}
 
@@ -110,6 +111,15 @@ gen_link seed = (sample_of seed).link
 abbrev pub gen_shape : (seed : ℕ) → Shape
 gen_shape seed =
     record { mode = (sample_of seed).mode; frames = 1 + seed / 4 % 2; unit = (sample_of seed).unit }
+
+-- and this is the plan of it
+abbrev pub gen_plan : (seed : ℕ) → PlanFacts
+gen_plan seed = record {
+  mode = (gen_shape seed).mode;
+  link = gen_link seed;
+  unit = (gen_shape seed).unit;
+  frames = (gen_shape seed).frames;
+}
 
 -- a component of a pixel, which is counted over all frames: 0 is red, 1 green, 2 blue
 unfoldable pub gen_component : (seed : ℕ) → Depth → (number place : ℕ) → ℕ

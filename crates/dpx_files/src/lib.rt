@@ -30,6 +30,6 @@ pub use gen_pipe::GenPipe;
 pub use generator::{gen_pixel, gen_shape};
 pub use header::{header_bytes, read_header};
 pub use job::{Job, LONGEST_JOB, Need, read_job};
-pub use laws::{frames_are_whole, headers_come_back};
+pub use laws::{frames_are_whole, frames_fit, headers_come_back};
 pub use refusal::{Field, JobBad};
 pub use shape::Shape;
