@@ -122,6 +122,7 @@ fn are_due(rt: &impl Abort, clock: u64, arrivals: &Arrivals) {
 }
 
 #[test]
+#[tactic(auto, unfolding(dpx_files::specs::Generator::sample_of))]
 fn a_pipe_hands_over_the_pixels_in_their_clocks(rt: HostRuntime) -> Result<(), Fail> {
     let (over, shape) = gen_shape(4);
     let mut pipe = GenPipe::new(4);

@@ -30,13 +30,18 @@ const LINK: &str = r#""link":{"rate":"RBR","lanes":2}"#;
 
 const SINK: &str = r#""sink":{"script":[]}"#;
 
+fn push_member(text: &mut String, name: &str, value: &str) -> Result<(), Fail> {
+    write!(text, ",\"{name}\":{value}")?;
+    Ok(())
+}
+
 /// A job with a sink and a mode without one member, and with more of them behind the others. Of a member
 /// that stands twice the last counts.
 fn job(alloc: Global, left_out: &str, more: &str) -> Result<String, Fail> {
     let mut text = format!(in alloc; "{{{LINK},{SINK},\"mode\":{{\"x\":0")?;
     for (name, value) in MEMBERS {
         if name != left_out {
-            write!(text, ",\"{name}\":{value}")?;
+            push_member(&mut text, name, value)?;
         }
     }
     text.push_str(more)?;
