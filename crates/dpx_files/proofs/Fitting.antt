@@ -1,8 +1,8 @@
 -- What a number gives fits its link: each of the four by its numbers.
-use Rattle.std.proofs.Common.{◌≡◌, ℕ, ◌+◌, ◌*◌, ◌/◌, ◌%◌, ◌<◌, ◌≤◌, Bool, true, false, arith, rules}
+use Rattle.std.proofs.Common.{ℕ, ◌%◌, ◌≤◌, Bool, true, false, arith, rules}
 use Rattle.std.specs.Prelude.{◌==◌, if◌then◌else◌}
-use Rattle.dpx_base.specs.Mode.{ModeFacts, IsLegal}
-use Rattle.dpx_base.specs.Plan.{PlanFacts, IsPlan, timing, timing_of}
+use Rattle.dpx_base.specs.Mode.{IsLegal}
+use Rattle.dpx_base.specs.Plan.{IsPlan, timing_of}
 use Rattle.dpx_base.specs.Timing.{IsFit, n, m, symbols, delay, line_end, gap, unit_of, last_unit, carried}
 use Rattle.dpx_base.specs.Timing.{floor_div, ceil_div}
 use Rattle.dpx_files.specs.declared.generator.Sample.{Sample}
