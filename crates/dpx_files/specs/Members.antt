@@ -3,10 +3,11 @@ use Rattle.std.specs.Prelude.{ℕ, Bool, true, false, ◌==◌, is_some, if◌th
 use Rattle.std.specs.Prelude.{option_and_then, Result, Ok}
 use Rattle.std.specs.Str.{is_utf8}
 use Rattle.serde_json.specs.Data.{Data, Items, no_items, item}
-use Rattle.serde_json.specs.Find.{as_number, as_u64, as_array, as_object}
+use Rattle.serde_json.specs.Find.{get, as_number, as_u64, as_array, as_object}
 use Rattle.serde_json.specs.Read.{read}
+use Rattle.dpx_base.specs.RawMode.{is_within}
 use Rattle.dpx_files.specs.declared.refusal.Field.{Field}
-use Rattle.dpx_files.specs.Refusal.{wanted}
+use Rattle.dpx_files.specs.Refusal.{wanted, field_name}
 
 -- the value that the bytes are, if they are a JSON text
 unfoldable pub json_of : List ℕ → Option Data
@@ -45,3 +46,19 @@ object_in field member = wanted field (option_and_then if_object member)
 abbrev pub or_default : {A : Type 0} → Field → (Data → Option A) → A → Option Data → Result A Field
 or_default field reads value None = Ok value
 or_default field reads value (Some member) = wanted field (reads member)
+
+-- a whole number from `low` to `high`
+abbrev pub within : (low high number : ℕ) → Option ℕ
+within low high number = if is_within low high number then Some number else None
+
+abbrev pub number_within : (low high : ℕ) → Data → Option ℕ
+number_within low high value = option_and_then (within low high) (whole_number value)
+
+-- a field that is such a number
+abbrev pub ranged : Field → (low high : ℕ) → Data → Result ℕ Field
+ranged field low high parent = wanted field (option_and_then (number_within low high) (get (field_name field) parent))
+
+-- a field that is such a number, or may be absent
+abbrev pub ranged_or : Field → (value low high : ℕ) → Data → Result ℕ Field
+ranged_or field value low high parent =
+    or_default field (number_within low high) value (get (field_name field) parent)

@@ -71,7 +71,9 @@ fn framing_is_enhanced_by_default(rt: HostRuntime) -> Result<(), Fail> {
     ] {
         let (before, behind) = ENHANCED;
         let text = format!(in rt.alloc(); "{before}{member}{behind}")?;
-        let Job::Train { link, .. } = read_job(rt.alloc(), text.as_bytes(), Need::Train)?;
+        let Job::Train { link, .. } = read_job(rt.alloc(), text.as_bytes(), Need::Train)? else {
+            return Err("no training".into());
+        };
         assert_eq!(rt; link.enhanced, wanted);
     }
     Ok(())
