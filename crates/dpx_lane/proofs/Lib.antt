@@ -10,5 +10,6 @@ pub mod Keys
 pub mod Receives
 pub mod RowSteps
 pub mod Sends
+pub mod SentRead
 pub mod Teams
 pub mod WholeRows

@@ -1,10 +1,10 @@
 //! What the definitions of lanes obey, and what lanes that stand for whole lists say of them.
 
-ghost use Rattle.std.specs.Prelude.{◌≡◌, ◌<◌, ◌-◌, ◌*◌, ◌++◌, ℕ, List, map, replicate};
+ghost use Rattle.std.specs.Prelude.{◌≡◌, ◌<◌, ◌-◌, ◌*◌, ◌++◌, ℕ, List, length, map, replicate, take};
 ghost use Rattle.dpx_base.specs.Capture.{IsCapture};
 ghost use Rattle.dpx_base.specs.Key.{Keyed};
 ghost use Rattle.dpx_base.specs.Plan.{PlanFacts};
-ghost use Rattle.dpx_base.specs.Words.{fill, LaneWords, SentWords};
+ghost use Rattle.dpx_base.specs.Words.{fill, LaneSymbols, LaneWords, NoneBad, SentWords};
 ghost use Rattle.dpx_base.specs.declared.pixel.Pixel.{Pixel};
 ghost use Rattle.dpx_base.specs.declared.sym.Sym.{Sym};
 ghost use Rattle.dpx_lane.specs.Codes.{symbol_of};
@@ -31,6 +31,16 @@ pub fn lanes_send_their_rows()
         → LaneWords lanes number symbols words }
     ensures once { (lanes : ℕ) (sets : List (List Sym)) (one other : List (List ℕ))
         → SentWords lanes sets one → SentWords lanes sets other → one ≡ other }
+{}
+
+/// Of words that a lane sent none is bad, and with the key taken off they say the lane's row so far: fills for its lag,
+/// and then its symbols. So a lane on the way in undoes all but the delay.
+pub fn what_is_sent_is_read()
+    ensures there { (lag : ℕ) (symbols : List Sym) (words : List ℕ) → IsSent lag symbols words
+        → LaneSymbols words (take (length symbols) (replicate lag fill ++ symbols)) }
+    ensures once { (lag : ℕ) (symbols plain : List Sym) (words : List ℕ) → IsSent lag symbols words
+        → LaneSymbols words plain → plain ≡ take (length symbols) (replicate lag fill ++ symbols) }
+    ensures none_bad { (lag : ℕ) (symbols : List Sym) (words : List ℕ) → IsSent lag symbols words → NoneBad words }
 {}
 
 /// A plan's frames have one capture.

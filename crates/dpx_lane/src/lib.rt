@@ -33,5 +33,7 @@ pub use lane_rx::LaneRx;
 pub use lane_team::LaneTeam;
 pub use lane_tx::LaneTx;
 pub use lane_work::LaneWork;
-pub use laws::{a_capture_is_one, lanes_send_their_rows, teams_go_on, the_key_comes_off};
+pub use laws::{
+    a_capture_is_one, lanes_send_their_rows, teams_go_on, the_key_comes_off, what_is_sent_is_read,
+};
 pub use scrambler::Scrambler;

@@ -7,7 +7,9 @@ use dpx_msa::MsaBad;
 use dpx_parse::{ParseBad, ParseWhy, Parser};
 use std::process::Abort;
 
+mod reasons;
 pub(crate) mod sent;
+mod walk;
 
 // Control symbols stand as 256 more than their byte.
 const BS: u16 = 0x1bc;

@@ -132,6 +132,63 @@ fn first_refusal_is_named(rt: HostRuntime) {
     assert!(rt; read_attributes(&bytes).is_ok());
 }
 
+/// Puts one of the six faults into the columns. They are numbered in the order in which they are named.
+fn spoil(bytes: &mut [u8; 36], fault: u8) {
+    match fault {
+        0 => bytes[33] |= 0x02,
+        1 => bytes[33] |= 0xa0,
+        2 => bytes[34] |= 0x01,
+        3 => bytes[21] |= 0x40,
+        4 => bytes[23] |= 0x40,
+        _ => {
+            bytes[30] = 0;
+            bytes[31] = 0;
+            bytes[32] = 0;
+        }
+    }
+}
+
+/// With these faults put in, this refusal is named.
+fn is_refused(rt: &impl Abort, faults: &[u8], why: MsaBad) {
+    let mut bytes = SPELLED;
+    for fault in faults {
+        spoil(&mut bytes, *fault);
+    }
+    assert_eq!(rt; read_attributes(&bytes), Err(why), "{faults:?}");
+}
+
+/// Each fault by itself, and each pair of faults, with what is named of them.
+const FAULTS: [(&[u8], MsaBad); 21] = [
+    (&[0], MsaBad::Colour(0x23)),
+    (&[1], MsaBad::DepthCode(0xa1)),
+    (&[2], MsaBad::Misc1(0x01)),
+    (&[3], MsaBad::Width(0x4010)),
+    (&[4], MsaBad::Height(0x4002)),
+    (&[5], MsaBad::NvidZero),
+    (&[0, 1], MsaBad::Colour(0xa3)),
+    (&[0, 2], MsaBad::Colour(0x23)),
+    (&[0, 3], MsaBad::Colour(0x23)),
+    (&[0, 4], MsaBad::Colour(0x23)),
+    (&[0, 5], MsaBad::Colour(0x23)),
+    (&[1, 2], MsaBad::DepthCode(0xa1)),
+    (&[1, 3], MsaBad::DepthCode(0xa1)),
+    (&[1, 4], MsaBad::DepthCode(0xa1)),
+    (&[1, 5], MsaBad::DepthCode(0xa1)),
+    (&[2, 3], MsaBad::Misc1(0x01)),
+    (&[2, 4], MsaBad::Misc1(0x01)),
+    (&[2, 5], MsaBad::Misc1(0x01)),
+    (&[3, 4], MsaBad::Width(0x4010)),
+    (&[3, 5], MsaBad::Width(0x4010)),
+    (&[4, 5], MsaBad::Height(0x4002)),
+];
+
+#[test]
+fn of_two_faults_the_earlier_is_named(rt: HostRuntime) {
+    for (faults, why) in FAULTS {
+        is_refused(&rt, faults, why);
+    }
+}
+
 #[test]
 fn sizes_are_read_at_their_edges(rt: HostRuntime) {
     for (place, value) in [(22, 16), (21, 0x20), (24, 1), (23, 0x20)] {

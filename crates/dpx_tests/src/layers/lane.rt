@@ -190,3 +190,50 @@ fn two_lanes_meet_at_the_gate(rt: HostRuntime) -> Result<(), Memory> {
     assert_eq!(rt; seen, (1, 1), "a lane did not see the other");
     Ok(())
 }
+
+/// How often each lane came.
+#[derive(Drop)]
+struct Counter {
+    came: [AtomicU64; 4],
+}
+
+impl Gate for Counter {
+    fn arrive(&self, lane: u8) {
+        if lane < 4 {
+            let came = &self.came[usize::from(lane)];
+            came.store(
+                came.load(Ordering::SeqCst).saturating_add(1),
+                Ordering::SeqCst,
+            );
+        }
+    }
+}
+
+/// How often each lane came to the gate in a run of four lanes.
+fn comings<R: Threads + Sync>(rt: &R, alloc: Global, workers: Workers) -> Result<[u64; 4], Memory> {
+    let gate = Counter {
+        came: [
+            AtomicU64::new(0),
+            AtomicU64::new(0),
+            AtomicU64::new(0),
+            AtomicU64::new(0),
+        ],
+    };
+    let mut team = LaneTeam::rx(Lanes::Four);
+    let mut rows = LaneRows::new(alloc, Lanes::Four)?;
+    team.run(rt, &mut rows, workers, &gate);
+    let [first, second, third, fourth] = &gate.came;
+    Ok([
+        first.load(Ordering::SeqCst),
+        second.load(Ordering::SeqCst),
+        third.load(Ordering::SeqCst),
+        fourth.load(Ordering::SeqCst),
+    ])
+}
+
+#[test]
+fn each_lane_comes_to_the_gate_once_a_row(rt: HostRuntime) -> Result<(), Memory> {
+    assert_eq!(rt; comings(&rt, rt.alloc(), Workers::One)?, [1; 4]);
+    assert_eq!(rt; comings(&rt, rt.alloc(), Workers::Lanes)?, [1; 4]);
+    Ok(())
+}
