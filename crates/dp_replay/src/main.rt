@@ -8,8 +8,10 @@ ghost use Rattle.std.specs.Prelude.{◌≡◌, ◌≢◌, IfOk};
 ghost use Rattle.dpx_base.specs.Faults.{Rose};
 ghost use Rattle.dpx_cli.specs.Status.{IsExitStatus};
 
+mod file_pipe;
 mod file_sink;
 mod file_source;
+mod records;
 #[cfg(test)]
 mod tests;
 

@@ -1,3 +1,4 @@
+pub mod Captures
 pub mod Jobs
 pub mod LineSteps
 pub mod Modelled

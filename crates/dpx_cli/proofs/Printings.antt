@@ -12,7 +12,7 @@ use Rattle.dpx_cli.specs.Transfer.{Prints, PrintsFront}
 use Rattle.dpx_cli.specs.Printing.{StepsPrint, EndsWith, StopsBehind, StopsAtOnce, Finishes, CommandPrints}
 use Rattle.dpx_cli.proofs.Transfers.{Appends-more}
 
-Appends-none : (taken : Option (List ℕ)) → Appends taken taken []
+pub Appends-none : (taken : Option (List ℕ)) → Appends taken taken []
 Appends-none None = tt
 Appends-none (Some all) = sym (append-nil all)
 
@@ -21,13 +21,13 @@ prints_nothing out now e =
     subst (λ (o : SinkSeen). Prints (out ⇒ o) []) (sym e) (record { taken = Appends-none out.taken; calm = refl })
 
 module _ {out middle now : SinkSeen} {xs : List ℕ} (first : Prints (out ⇒ middle) xs) where
-  prints_more : {ys : List ℕ} → Prints (middle ⇒ now) ys → Prints (out ⇒ now) (xs ++ ys)
+  pub prints_more : {ys : List ℕ} → Prints (middle ⇒ now) ys → Prints (out ⇒ now) (xs ++ ys)
   prints_more {ys = ys} next = record {
     taken = Appends-more _ _ _ xs ys first.taken next.taken;
     calm = next.calm ∙ first.calm;
   }
 
-  breaks_behind : {ys : List ℕ} → PrintsFront (middle ⇒ now) ys → PrintsFront (out ⇒ now) (xs ++ ys)
+  pub breaks_behind : {ys : List ℕ} → PrintsFront (middle ⇒ now) ys → PrintsFront (out ⇒ now) (xs ++ ys)
   breaks_behind next = record {
     front = xs ++ next.front;
     rest = next.rest;

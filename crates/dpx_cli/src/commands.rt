@@ -6,12 +6,13 @@ ghost use Rattle.dpx_cli.specs.Printing.{StopsAtOnce};
 ghost use Rattle.dpx_cli.specs.Status.{IsExitStatus, IsClean, Means};
 ghost use Rattle.dpx_cli.specs.Step.{◌⇒◌};
 ghost use Rattle.dpx_cli.specs.Train.{SaysTrained, TrainDoes};
-ghost use Rattle.dpx_cli.specs.Words.{command_in, IsTrain};
+ghost use Rattle.dpx_cli.specs.Commands.{IsTrain};
+ghost use Rattle.dpx_words.specs.Reading.{command_in};
 
 use crate::printing::print_stop;
 use crate::stop::Stop;
 use crate::train::train;
-use crate::words::{Command, WordsEnd, read_words};
+use dpx_words::{Command, WordsEnd, read_words};
 use dpx_base::{Sink, Source};
 use dpx_dpcd::LoadPort;
 use std::alloc::Global;
@@ -58,6 +59,7 @@ pub fn replay<S: Source, P: LoadPort, O: Sink>(
 {
     match read_words(alloc, words) {
         Ok(Command::Train { .. }) => train(alloc, src, aux, out),
+        Ok(_) => 8,
         Err(WordsEnd::Usage) => print_stop(alloc, out, &Stop::Usage),
         Err(WordsEnd::Memory) => print_stop(alloc, out, &Stop::NoMemory),
     }
