@@ -12,6 +12,8 @@ pub struct Caps {
     pub rate: Rate,
     /// Bits 4:0 of byte 2.
     pub lanes: Lanes,
+    /// The sink knows enhanced framing: bit 7 of byte 2.
+    pub enhanced: bool,
     /// The sink knows the pattern TPS3: bit 6 of byte 2.
     pub tps3: bool,
     /// The sink knows the pattern TPS4: bit 7 of byte 3.
@@ -26,8 +28,6 @@ pub struct Caps {
 pub enum CapsBad {
     /// Bits 4:0 of byte 2 are not 1, 2 or 4.
     BadLanes(u8),
-    /// Bit 7 of byte 2 is 0: no enhanced framing.
-    NoEnhanced(u8),
     /// Byte 1 is below the code of RBR.
     BadRate(u8),
 }
@@ -49,22 +49,21 @@ impl Caps {
         let Some(lanes) = Lanes::from_count(bytes[2] % 0x20) else {
             return Err(CapsBad::BadLanes(bytes[2]));
         };
-        if bytes[2] < 0x80 {
-            return Err(CapsBad::NoEnhanced(bytes[2]));
-        }
         let Some(rate) = Rate::from_code(bytes[1]) else {
             return Err(CapsBad::BadRate(bytes[1]));
         };
         Ok(Caps {
             rate,
             lanes,
+            enhanced: bytes[2] >= 0x80,
             tps3: bytes[2] / 0x40 % 2 == 1,
             tps4: bytes[3] >= 0x80,
             interval: bytes[0x0e] % 0x80,
         })
     }
 
-    /// The first configuration of a training: the lower rate and the fewer lanes of this sink and of `top`.
+    /// The first configuration of a training: the lower rate and the fewer lanes of this sink and of `top`,
+    /// and enhanced framing where both have it.
     pub fn start(&self, top: Link) -> Link
         ensures { result ≡ caps_start self.now top }
     {
@@ -79,7 +78,7 @@ impl Caps {
             } else {
                 top.lanes
             },
-            enhanced: top.enhanced,
+            enhanced: self.enhanced && top.enhanced,
         }
     }
 

@@ -1,5 +1,5 @@
 -- The channel of a modelled sink: this project's own.
-use Rattle.std.specs.Prelude.{ℕ, Bool, true, false, nat_le, ◌==◌, if◌then◌else◌, List, [], ◌∷◌, ◌++◌, Option, Some}
+use Rattle.std.specs.Prelude.{ℕ, nat_le, if◌then◌else◌, List, [], ◌∷◌, ◌++◌, Option, Some}
 use Rattle.std.specs.Prelude.{None, option_and_then, replicate, slice_set}
 use Rattle.serde_json.specs.Data.{Data}
 use Rattle.serde_json.specs.Find.{get}
@@ -7,21 +7,13 @@ use Rattle.dpx_base.specs.declared.rate.Rate.{Rate}
 use Rattle.dpx_base.specs.declared.rate.Rate.TheVariants.{Rbr, Hbr, Hbr2, Hbr3}
 use Rattle.dpx_dpcd.specs.Cell.{CellFacts}
 use Rattle.dpx_dpcd.specs.Channel.{good_cell, place_of}
-use Rattle.dpx_files.specs.Members.{whole_number, elements, if_object}
+use Rattle.dpx_files.specs.Members.{whole_number, flag_of, elements, if_object}
 use Rattle.dpx_base.specs.Rate.{rate_name}
 
 -- one step, and behind it the next, where each has a value
 infixl 10 ◌>>=◌
 abbrev pub ◌>>=◌ : {A B : Type 0} → Option A → (A → Option B) → Option B
 found >>= next = option_and_then next found
-
--- 0 or 1
-abbrev pub flag_from : ℕ → Option Bool
-flag_from number = if number == 0 then Some false else if number == 1 then Some true else None
-
--- a flag is a number
-abbrev pub flag_of : Data → Option Bool
-flag_of value = option_and_then flag_from (whole_number value)
 
 -- 0 to 3
 abbrev pub level_from : ℕ → Option ℕ

@@ -1,14 +1,15 @@
 -- The reading of a job: this project's own. The fields are tried in the order in which they stand here.
-use Rattle.std.specs.Prelude.{ℕ, nat_lt, if◌then◌else◌, List, length, codes, Option, Some, None, Result, Ok, Err}
+use Rattle.std.specs.Prelude.{ℕ, nat_lt, if◌then◌else◌, List, length, codes, Option, Some, None, Result, Ok, Err, IfSome}
 use Rattle.serde_json.specs.Data.{Data}
 use Rattle.serde_json.specs.Find.{get}
 use Rattle.dpx_base.specs.declared.link.Link.{Link}
 use Rattle.dpx_dpcd.specs.declared.plan.SinkPlan.{SinkPlan}
 use Rattle.dpx_dpcd.specs.declared.plan.SinkPlan.TheVariants as plan
+use Rattle.dpx_dpcd.specs.Model.{IsPlan}
 use Rattle.dpx_files.specs.declared.job.Job.{Job}
 use Rattle.dpx_files.specs.declared.job.Job.TheVariants as job
 use Rattle.dpx_files.specs.declared.job.Need.{Need}
-use Rattle.dpx_files.specs.declared.job.Need.TheVariants.{Train}
+use Rattle.dpx_files.specs.declared.job.Need.TheVariants as need
 use Rattle.dpx_files.specs.declared.refusal.Field.{Field}
 use Rattle.dpx_files.specs.declared.refusal.Field.TheVariants as field
 use Rattle.dpx_files.specs.declared.refusal.JobBad.{JobBad}
@@ -18,6 +19,8 @@ use Rattle.dpx_files.specs.Members.{json_of, object_in}
 use Rattle.dpx_files.specs.LinkFields.{link_of}
 use Rattle.dpx_files.specs.Script.{script_of}
 use Rattle.dpx_files.specs.Model.{model_of}
+use Rattle.dpx_files.specs.declared.shape.Shape.{Shape}
+use Rattle.dpx_files.specs.Shape.{shape_of, IsShape}
 
 -- how many bytes a job has at most
 abbrev pub longest_job : ℕ
@@ -38,25 +41,65 @@ sink_of root = do
   sink ← object_in field.Sink (get (codes "sink") root)
   plan_of (get (codes "script") sink) (get (codes "model") sink)
 
--- what a job says, of that which is needed
-unfoldable pub job_of : Need → Data → Result Job Field
-job_of Train value = do
+-- what a job says to `train`
+unfoldable pub train_of : Data → Result Job Field
+train_of value = do
   root ← object_in field.Root (Some value)
   link ← link_of root
   sink ← sink_of root
   Ok (job.Train link sink)
 
+-- what it says to `send`
+unfoldable pub send_of : Data → Result Job Field
+send_of value = do
+  root ← object_in field.Root (Some value)
+  link ← link_of root
+  shape ← shape_of root
+  Ok (job.Send link shape)
+
+-- what it says to `run`
+unfoldable pub run_of : Data → Result Job Field
+run_of value = do
+  root ← object_in field.Root (Some value)
+  link ← link_of root
+  shape ← shape_of root
+  sink ← sink_of root
+  Ok (job.Run link shape sink)
+
+-- what a job says, of that which is needed
+abbrev pub job_of : Need → Data → Result Job Field
+job_of need.Train value = train_of value
+job_of need.Send value = send_of value
+job_of need.Run value = run_of value
+
 -- the link that a job asks for
 abbrev pub link_asked : Job → Link
 link_asked (job.Train link sink) = link
+link_asked (job.Send link shape) = link
+link_asked (job.Run link shape sink) = link
 
--- what its sink is to answer
-abbrev pub plan_asked : Job → SinkPlan
-plan_asked (job.Train link sink) = sink
+-- what its sink is to answer, where it has one
+abbrev pub plan_asked : Job → Option SinkPlan
+plan_asked (job.Train link sink) = Some sink
+plan_asked (job.Send link shape) = None
+plan_asked (job.Run link shape sink) = Some sink
+
+-- what is to be sent, where anything is
+abbrev pub shape_asked : Job → Option Shape
+shape_asked (job.Train link sink) = None
+shape_asked (job.Send link shape) = Some shape
+shape_asked (job.Run link shape sink) = Some shape
 
 -- what a job was read for
 abbrev pub need_of : Job → Need
-need_of (job.Train link sink) = Train
+need_of (job.Train link sink) = need.Train
+need_of (job.Send link shape) = need.Send
+need_of (job.Run link shape sink) = need.Run
+
+-- what every job that is read keeps to
+pub record IsJob (asked : Job) : Type 0 where
+  pub plan : IfSome (plan_asked asked) IsPlan
+  pub shape : IfSome (shape_asked asked) IsShape
 
 -- what the value of a text says, if it is one
 abbrev pub job_of_text : Need → Option Data → Result Job JobBad

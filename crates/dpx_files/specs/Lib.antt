@@ -1,7 +1,14 @@
 pub mod Channel
+pub mod GenPipe
+pub mod GenPipeFields
+pub mod Generator
+pub mod Header
 pub mod Job
+pub mod Laws
 pub mod LinkFields
 pub mod Members
+pub mod ModeFields
 pub mod Model
 pub mod Refusal
 pub mod Script
+pub mod Shape

@@ -1,8 +1,10 @@
 -- Refusals of a job: this project's own.
 use Rattle.std.specs.Prelude.{◌≡◌, ◌⊎◌, ℕ, List, codes, Option, Some, None, Result, Ok, Err, MatchResult}
 use Rattle.dpx_files.specs.declared.refusal.Field.{Field}
-use Rattle.dpx_files.specs.declared.refusal.Field.TheVariants.{Root, Link, Rate, Lanes, Sink, Script, Model, Caps}
-use Rattle.dpx_files.specs.declared.refusal.Field.TheVariants.{Extended, Defers, Channel}
+use Rattle.dpx_files.specs.declared.refusal.Field.TheVariants.{Root, Link, Rate, Lanes, Enhanced, Mode, Width}
+use Rattle.dpx_files.specs.declared.refusal.Field.TheVariants.{Height, Htotal, Vtotal, Hsw, Hstart, Vsw, Vstart}
+use Rattle.dpx_files.specs.declared.refusal.Field.TheVariants.{Hsp, Vsp, Clock, Depth, Frames, Unit, Sink}
+use Rattle.dpx_files.specs.declared.refusal.Field.TheVariants.{Script, Model, Caps, Extended, Defers, Channel}
 use Rattle.dpx_files.specs.declared.refusal.JobBad.{JobBad}
 use Rattle.dpx_files.specs.declared.refusal.JobBad.TheVariants.{Wrong, Memory}
 
@@ -12,6 +14,22 @@ field_name Root = codes "job"
 field_name Link = codes "link"
 field_name Rate = codes "rate"
 field_name Lanes = codes "lanes"
+field_name Enhanced = codes "enhanced"
+field_name Mode = codes "mode"
+field_name Width = codes "width"
+field_name Height = codes "height"
+field_name Htotal = codes "htotal"
+field_name Vtotal = codes "vtotal"
+field_name Hsw = codes "hsw"
+field_name Hstart = codes "hstart"
+field_name Vsw = codes "vsw"
+field_name Vstart = codes "vstart"
+field_name Hsp = codes "hsp"
+field_name Vsp = codes "vsp"
+field_name Clock = codes "clock"
+field_name Depth = codes "depth"
+field_name Frames = codes "frames"
+field_name Unit = codes "unit"
 field_name Sink = codes "sink"
 field_name Script = codes "script"
 field_name Model = codes "model"

@@ -1,9 +1,9 @@
 ghost use Rattle.std.specs.Prelude.{◌≡◌, ◌≤◌, ◌++◌, IfSome};
 ghost use Rattle.serde_json.specs.View.{view};
 ghost use Rattle.dpx_dpcd.specs.Model.{IsCell, AreCells};
-ghost use Rattle.dpx_files.specs.Channel.{channel_of, lanes_at, cell_of, flag_of, level_of, with_lanes};
+ghost use Rattle.dpx_files.specs.Channel.{channel_of, lanes_at, cell_of, level_of, with_lanes};
 
-use crate::members::elements;
+use crate::members::{elements, read_flag};
 use dpx_base::Rate;
 use dpx_dpcd::{Cell, Channel};
 use serde_json::Value;
@@ -50,16 +50,6 @@ fn read_cell(value: &Value) -> Option<Cell>
             read_level(swing)?,
             read_level(emph)?,
         )),
-        _ => None,
-    }
-}
-
-fn read_flag(value: &Value) -> Option<bool>
-    ensures { result ≡ flag_of (view value.now) }
-{
-    match value.as_u64() {
-        Some(0) => Some(false),
-        Some(1) => Some(true),
         _ => None,
     }
 }

@@ -1,15 +1,18 @@
-ghost use Rattle.std.specs.Prelude.{◌≡◌, ◌<◌, ◌↔◌, true, length, None, IfOk, IsErr, IsErrOf};
+ghost use Rattle.std.specs.Prelude.{◌≡◌, ◌<◌, ◌↔◌, length, None, IfOk, IfSome, IsErr, IsErrOf};
 ghost use Rattle.serde_json.specs.View.{view};
 ghost use Rattle.dpx_dpcd.specs.Model.{IsPlan};
-ghost use Rattle.dpx_files.specs.Job.{reading, job_of, sink_of, longest_job, link_asked, plan_asked, need_of};
+ghost use Rattle.dpx_files.specs.Job.{reading, job_of, train_of, send_of, run_of, sink_of, longest_job};
+ghost use Rattle.dpx_files.specs.Job.{plan_asked, shape_asked, need_of, IsJob};
 ghost use Rattle.dpx_files.specs.Members.{json_of};
 ghost use Rattle.dpx_files.specs.Refusal.{GivesUnlessMemory, refused};
+ghost use Rattle.dpx_files.specs.Shape.{IsShape};
 
 use crate::link_fields::read_link;
 use crate::members::{object_in, read_value};
 use crate::model::read_model;
 use crate::script::read_script;
-use crate::{Field, JobBad};
+use crate::shape::read_shape;
+use crate::{Field, JobBad, Shape};
 use dpx_base::Link;
 use dpx_dpcd::SinkPlan;
 use serde_json::Value;
@@ -19,13 +22,29 @@ use std::alloc::Global;
 #[derive(Clone, Copy, Debug, PartialEq, Eq)]
 pub enum Need {
     Train,
+    Send,
+    Run,
 }
 
 /// What a job asks for.
 #[derive(Drop)]
 pub enum Job {
     /// Train this link with this sink.
-    Train { link: Link, sink: SinkPlan },
+    Train {
+        link: Link,
+        sink: SinkPlan,
+    },
+    /// Send this shape over this link.
+    Send {
+        link: Link,
+        shape: Shape,
+    },
+    /// Train this link with this sink, and send this shape over the link that was trained.
+    Run {
+        link: Link,
+        shape: Shape,
+        sink: SinkPlan,
+    },
 }
 
 /// How many bytes a job has at most.
@@ -40,8 +59,8 @@ pub fn read_job(alloc: Global, bytes: &[u8], need: Need) -> Result<Job, JobBad>
     ensures too_long { IsErrOf result JobBad.TooLong ↔ (longest_job < length bytes.now) }
     ensures not_json { IsErrOf result JobBad.NotJson → json_of bytes.now ≡ None }
     ensures only_json { json_of bytes.now ≡ None → IsErr result }
-    ensures plan { IfOk result (λ job. IsPlan (plan_asked job)) }
-    ensures enhanced { IfOk result (λ job. (link_asked job).enhanced ≡ true) }
+    ensures plan { IfOk result (λ job. IfSome (plan_asked job) IsPlan) }
+    ensures shape { IfOk result (λ job. IfSome (shape_asked job) IsShape) }
     ensures kind { IfOk result (λ job. need_of job ≡ need) }
 {
     if bytes.len() > LONGEST_JOB {
@@ -51,21 +70,54 @@ pub fn read_job(alloc: Global, bytes: &[u8], need: Need) -> Result<Job, JobBad>
     job_of(alloc, &value, need)
 }
 
-#[tactic(auto, unfolding(crate::specs::Job::job_of))]
 fn job_of(alloc: Global, value: &Value, need: Need) -> Result<Job, JobBad>
     ensures exact { GivesUnlessMemory (refused (job_of need (view value.now))) result }
-    ensures plan { IfOk result (λ job. IsPlan (plan_asked job)) }
-    ensures enhanced { IfOk result (λ job. (link_asked job).enhanced ≡ true) }
+    ensures good { IfOk result IsJob }
     ensures kind { IfOk result (λ job. need_of job ≡ need) }
 {
     match need {
-        Need::Train => {
-            let root = object_in(Field::Root, Some(value))?;
-            let link = read_link(root)?;
-            let sink = read_sink(alloc, root)?;
-            Ok(Job::Train { link, sink })
-        }
+        Need::Train => train_job(alloc, value),
+        Need::Send => Ok(send_job(value)?),
+        Need::Run => run_job(alloc, value),
     }
+}
+
+#[tactic(auto, unfolding(crate::specs::Job::train_of))]
+fn train_job(alloc: Global, value: &Value) -> Result<Job, JobBad>
+    ensures exact { GivesUnlessMemory (refused (train_of (view value.now))) result }
+    ensures good { IfOk result IsJob }
+    ensures kind { IfOk result (λ job. need_of job ≡ Need.Train) }
+{
+    let root = object_in(Field::Root, Some(value))?;
+    let link = read_link(root)?;
+    let sink = read_sink(alloc, root)?;
+    Ok(Job::Train { link, sink })
+}
+
+#[tactic(auto, unfolding(crate::specs::Job::send_of))]
+fn send_job(value: &Value) -> Result<Job, Field>
+    ensures exact { result ≡ send_of (view value.now) }
+    ensures good { IfOk result IsJob }
+    ensures kind { IfOk result (λ job. need_of job ≡ Need.Send) }
+{
+    let root = object_in(Field::Root, Some(value))?;
+    Ok(Job::Send {
+        link: read_link(root)?,
+        shape: read_shape(root)?,
+    })
+}
+
+#[tactic(auto, unfolding(crate::specs::Job::run_of))]
+fn run_job(alloc: Global, value: &Value) -> Result<Job, JobBad>
+    ensures exact { GivesUnlessMemory (refused (run_of (view value.now))) result }
+    ensures good { IfOk result IsJob }
+    ensures kind { IfOk result (λ job. need_of job ≡ Need.Run) }
+{
+    let root = object_in(Field::Root, Some(value))?;
+    let link = read_link(root)?;
+    let shape = read_shape(root)?;
+    let sink = read_sink(alloc, root)?;
+    Ok(Job::Run { link, shape, sink })
 }
 
 #[tactic(auto, unfolding(crate::specs::Job::sink_of))]

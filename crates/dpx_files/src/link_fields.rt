@@ -1,24 +1,23 @@
-ghost use Rattle.std.specs.Prelude.{◌≡◌, true, IfOk};
+ghost use Rattle.std.specs.Prelude.{◌≡◌};
 ghost use Rattle.serde_json.specs.View.{view};
 ghost use Rattle.dpx_base.specs.Lanes.{lanes_from_count};
-ghost use Rattle.dpx_files.specs.LinkFields.{link_of, rate_of, lanes_of, rate_named};
+ghost use Rattle.dpx_files.specs.LinkFields.{link_of, rate_of, lanes_of, enhanced_of, rate_named};
 
 use crate::Field;
-use crate::members::object_in;
+use crate::members::{object_in, read_flag};
 use dpx_base::{Lanes, Link, Rate};
 use serde_json::Value;
 
 /// The link that the root of a job asks for.
 #[tactic(auto, unfolding(crate::specs::LinkFields::link_of))]
 pub(crate) fn read_link(root: &Value) -> Result<Link, Field>
-    ensures value { result ≡ link_of (view root.now) }
-    ensures enhanced { IfOk result (λ link. link.enhanced ≡ true) }
+    ensures { result ≡ link_of (view root.now) }
 {
     let link = object_in(Field::Link, root.get("link"))?;
     Ok(Link {
         rate: read_rate(link)?,
         lanes: read_lanes(link)?,
-        enhanced: true,
+        enhanced: read_enhanced(link)?,
     })
 }
 
@@ -38,6 +37,16 @@ fn read_lanes(link: &Value) -> Result<Lanes, Field>
         .and_then(Value::as_u64)
         .and_then(lanes_from_count)
         .ok_or(Field::Lanes)
+}
+
+/// Enhanced framing, where the member is absent.
+fn read_enhanced(link: &Value) -> Result<bool, Field>
+    ensures { result ≡ enhanced_of (view link.now) }
+{
+    match link.get("enhanced") {
+        Some(value) => read_flag(value).ok_or(Field::Enhanced),
+        None => Ok(true),
+    }
 }
 
 fn rate_named(name: &str) -> Option<Rate>

@@ -52,6 +52,10 @@ fn jobs_without_a_reading_are_refused(rt: HostRuntime) -> Result<(), Fail> {
 const DONE_AT_ONCE: &str =
     "0012068100000000000000000000000000 00 00 00 00 00010000000000 00 00070001000000 00";
 
+/// The same from a sink without enhanced framing.
+pub(crate) const DONE_IN_DEFAULT_FRAMING: &str =
+    "0012060100000000000000000000000000 00 00 00 00 00010000000000 00 00070001000000 00";
+
 pub(crate) const ASKS_FOR_SWING: &str =
     "0012068100000000000000000000000000 00 00 00 00 00000000000A00 00 00010000000A00 00
     00070001000A00 00";
@@ -67,12 +71,20 @@ const NEVER_ALIGNED: &str =
 /// The answers of a script, and the report and the status that they come to for RBR on one lane.
 type Scripted = (&'static str, &'static str, u8);
 
-const SCRIPTS: [Scripted; 11] = [
+const SCRIPTS: [Scripted; 12] = [
     // no answer
     ("", "aux spent at 00000 last silent requests 8\n", 4),
     // a link that is done at once
     (
         DONE_AT_ONCE,
+        "trained RBR 1 requests 9\n\
+        lane 0 swing 0 emphasis 0\n\
+        last 07 00 01 00 00 00\n",
+        0,
+    ),
+    // a link that is done at once in default framing
+    (
+        DONE_IN_DEFAULT_FRAMING,
         "trained RBR 1 requests 9\n\
         lane 0 swing 0 emphasis 0\n\
         last 07 00 01 00 00 00\n",
@@ -112,10 +124,10 @@ const SCRIPTS: [Scripted; 11] = [
         "caps lanes 80 requests 1\n",
         4,
     ),
-    // no enhanced framing
+    // no enhanced framing, which is no refusal, and then silence
     (
         "0012060400000000000000000000000000",
-        "caps enhanced 04 requests 1\n",
+        "aux spent at 00600 last silent requests 9\n",
         4,
     ),
     // a rate below RBR

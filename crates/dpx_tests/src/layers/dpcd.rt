@@ -25,41 +25,59 @@ fn block(rate: u8, lanes: u8, pattern: u8, interval: u8) -> [u8; 16] {
     ]
 }
 
-fn caps(rate: Rate, lanes: Lanes, tps3: bool, tps4: bool, interval: u8) -> Result<Caps, CapsBad> {
-    Ok(Caps {
+/// Capabilities with these patterns, in default framing.
+fn plain(rate: Rate, lanes: Lanes, [tps3, tps4]: [bool; 2], interval: u8) -> Caps {
+    Caps {
         rate,
         lanes,
+        enhanced: false,
         tps3,
         tps4,
         interval,
-    })
+    }
+}
+
+/// The same in enhanced framing.
+fn caps(rate: Rate, lanes: Lanes, patterns: [bool; 2], interval: u8) -> Caps {
+    Caps {
+        enhanced: true,
+        ..plain(rate, lanes, patterns, interval)
+    }
 }
 
 #[test]
 fn block_of_capabilities_is_read_or_refused_by_its_first_fault(rt: HostRuntime) {
     let rows = [
-        (HBR2, caps(Rate::Hbr2, Lanes::Four, true, true, 0)),
-        (HBR3, caps(Rate::Hbr3, Lanes::Four, true, true, 0)),
+        (HBR2, Ok(caps(Rate::Hbr2, Lanes::Four, [true, true], 0))),
+        (HBR3, Ok(caps(Rate::Hbr3, Lanes::Four, [true, true], 0))),
         (
             block(0x19, 0x84, 0, 0),
-            caps(Rate::Hbr2, Lanes::Four, false, false, 0),
+            Ok(caps(Rate::Hbr2, Lanes::Four, [false, false], 0)),
         ),
         (
             block(0x06, 0xc1, 0x7f, 0x7f),
-            caps(Rate::Rbr, Lanes::One, true, false, 0x7f),
+            Ok(caps(Rate::Rbr, Lanes::One, [true, false], 0x7f)),
         ),
         (
             block(0x0a, 0xa2, 0x80, 0x84),
-            caps(Rate::Hbr, Lanes::Two, false, true, 4),
+            Ok(caps(Rate::Hbr, Lanes::Two, [false, true], 4)),
+        ),
+        // no block is refused for want of enhanced framing
+        (
+            block(0x14, 0x04, 0x81, 0),
+            Ok(plain(Rate::Hbr2, Lanes::Four, [false, true], 0)),
+        ),
+        (
+            block(0x1e, 0x42, 0, 0x03),
+            Ok(plain(Rate::Hbr3, Lanes::Two, [true, false], 3)),
         ),
         (block(0x14, 0x83, 0x81, 0), Err(CapsBad::BadLanes(0x83))),
         (block(0x14, 0x80, 0x81, 0), Err(CapsBad::BadLanes(0x80))),
         (block(0x14, 0x91, 0x81, 0), Err(CapsBad::BadLanes(0x91))),
-        (block(0x14, 0x04, 0x81, 0), Err(CapsBad::NoEnhanced(0x04))),
         (block(0x05, 0x84, 0x81, 0), Err(CapsBad::BadRate(0x05))),
-        // lanes, framing and rate are looked at in this order
+        (block(0x05, 0x04, 0x81, 0), Err(CapsBad::BadRate(0x05))),
+        // the lanes are looked at before the rate
         (block(0x05, 0x03, 0, 0), Err(CapsBad::BadLanes(0x03))),
-        (block(0x05, 0x44, 0, 0), Err(CapsBad::NoEnhanced(0x44))),
     ];
     for (block, caps) in rows {
         assert_eq!(rt; Caps::read(&block), caps, "{block:?}");
@@ -88,16 +106,34 @@ fn link(rate: Rate, lanes: Lanes, enhanced: bool) -> Link {
 #[test]
 fn training_starts_at_the_lower_rate_and_the_fewer_lanes(rt: HostRuntime) -> Result<(), Fail> {
     let rows = [
-        ((Rate::Hbr3, Lanes::Four, true), (Rate::Hbr2, Lanes::Two)),
-        ((Rate::Hbr2, Lanes::Two, false), (Rate::Hbr2, Lanes::Two)),
-        ((Rate::Rbr, Lanes::Four, true), (Rate::Rbr, Lanes::Two)),
-        ((Rate::Hbr3, Lanes::One, true), (Rate::Hbr2, Lanes::One)),
-        ((Rate::Hbr, Lanes::One, false), (Rate::Hbr, Lanes::One)),
+        ((Rate::Hbr3, Lanes::Four), (Rate::Hbr2, Lanes::Two)),
+        ((Rate::Hbr2, Lanes::Two), (Rate::Hbr2, Lanes::Two)),
+        ((Rate::Rbr, Lanes::Four), (Rate::Rbr, Lanes::Two)),
+        ((Rate::Hbr3, Lanes::One), (Rate::Hbr2, Lanes::One)),
+        ((Rate::Hbr, Lanes::One), (Rate::Hbr, Lanes::One)),
     ];
     let sink = Caps::read(&block(0x14, 0xc2, 0x81, 0))?;
-    for ((rate, lanes, enhanced), (lower, fewer)) in rows {
-        let start = sink.start(link(rate, lanes, enhanced));
-        assert_eq!(rt; start, link(lower, fewer, enhanced));
+    for ((rate, lanes), (lower, fewer)) in rows {
+        assert_eq!(rt;
+            sink.start(link(rate, lanes, true)),
+            link(lower, fewer, true)
+        );
+    }
+    Ok(())
+}
+
+#[test]
+fn framing_is_enhanced_where_both_ends_know_it(rt: HostRuntime) -> Result<(), Fail> {
+    let rows = [
+        (0x81, true, true),
+        (0x81, false, false),
+        (0x01, true, false),
+        (0x01, false, false),
+    ];
+    for (byte, source, both) in rows {
+        let sink = Caps::read(&block(0x06, byte, 0, 0))?;
+        let start = sink.start(link(Rate::Rbr, Lanes::One, source));
+        assert_eq!(rt; start, link(Rate::Rbr, Lanes::One, both));
     }
     Ok(())
 }

@@ -5,8 +5,11 @@ use std::alloc::Global;
 use std::process::Abort;
 use std::test::Fail;
 
+mod generator;
+mod header;
 mod link;
 mod model;
+mod shape;
 mod sink;
 mod text;
 
@@ -24,15 +27,20 @@ pub(crate) const SCRIPT: Frame = (
     "}}",
 );
 
-/// How a job is read: `ok`, or what is said of it behind `job`.
-pub(crate) fn outcome(alloc: Global, bytes: &[u8]) -> &'static str {
-    match read_job(alloc, bytes, Need::Train) {
+/// How a job is read for a command: `ok`, or what is said of it behind `job`.
+pub(crate) fn outcome_for(alloc: Global, need: Need, bytes: &[u8]) -> &'static str {
+    match read_job(alloc, bytes, need) {
         Ok(_) => "ok",
         Err(JobBad::TooLong) => "too long",
         Err(JobBad::NotJson) => "not json",
         Err(JobBad::Wrong(field)) => field.name(),
         Err(JobBad::Memory) => "memory",
     }
+}
+
+/// How a job is read to train its link.
+pub(crate) fn outcome(alloc: Global, bytes: &[u8]) -> &'static str {
+    outcome_for(alloc, Need::Train, bytes)
 }
 
 /// Each piece in its frame has this outcome. Semicolons stand between the pieces.

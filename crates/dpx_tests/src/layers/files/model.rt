@@ -77,7 +77,10 @@ const SEVEN_DEFERS: &str =
 
 #[test]
 fn a_model_is_read_with_its_defaults(rt: HostRuntime) -> Result<(), Fail> {
-    let Job::Train { link, sink } = read_job(rt.alloc(), SEVEN_DEFERS.as_bytes(), Need::Train)?;
+    let Job::Train { link, sink } = read_job(rt.alloc(), SEVEN_DEFERS.as_bytes(), Need::Train)?
+    else {
+        return Err("no training".into());
+    };
     let wanted = Link {
         rate: Rate::Hbr3,
         lanes: Lanes::Four,

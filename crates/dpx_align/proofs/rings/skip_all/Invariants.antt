@@ -1,0 +1,6 @@
+use Rattle.std.proofs.Common.{◌≡◌, ◌++◌, take, drop, map}
+use Rattle.dpx_align.proofs.rings.skip_all.Given as goal
+
+abbrev pub invariant-loop-ring : goal.invariant-loop-ring
+invariant-loop-ring l = l.rings ≡ map (λ ring. drop l.count ring) (take l.ring-index l.initial.rings)
+    ++ drop l.ring-index l.initial.rings

@@ -1,0 +1,11 @@
+-- The pixels of all frames are few enough to be counted.
+use Rattle.std.proofs.Common.{ℕ, ◌*◌, ◌≤◌, arith}
+use Rattle.std.proofs.Math.Nat.{mul-le-mul_left}
+
+lines_fit : (frames height : ℕ) → frames ≤ 65535 → height ≤ 8192 → frames * height ≤ 65535 * 8192
+lines_fit frames height f h = omega (arith, mul-le-mul_left frames h)
+
+pub pixels_fit : (frames height width : ℕ) → frames ≤ 65535 → height ≤ 8192 → width ≤ 8192
+    → frames * height * width ≤ 65535 * 8192 * 8192
+pixels_fit frames height width f h w =
+    omega (arith, lines_fit frames height f h, mul-le-mul_left (frames * height) w)
