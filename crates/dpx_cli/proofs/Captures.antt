@@ -19,7 +19,7 @@ use Rattle.dpx_base.specs.Timing.{n, m}
 use Rattle.dpx_source.specs.declared.sending.DriveEnd.{DriveEnd}
 use Rattle.dpx_source.specs.declared.sending.DriveEnd.TheVariants as drive
 use Rattle.dpx_source.specs.declared.sending.Sent.{Sent}
-use Rattle.dpx_source.specs.Drive.{HandedFront, HandedAll, TakenFront, TakenAll, IsFront, IsWhole, StopsBad, StopsShort}
+use Rattle.dpx_source.specs.Drive.{HandedFront, HandedAll, sent_of, TakenFront, TakenAll, IsFront, IsWhole, StopsBad, StopsShort}
 use Rattle.dpx_source.specs.Transfer.{AppendsFront}
 use Rattle.dpx_cli.specs.declared.stop.Stop.{Stop}
 use Rattle.dpx_cli.specs.declared.stop.Stop.TheVariants as stop
@@ -37,7 +37,7 @@ unfolding n m
 carried p planned = planned.fits.not_too_fast
 
 -- what holds of each of two views of the same thing holds together
-both : {A : Type 0} (told : Option A) {P Q R : A → Type 0} → IfSome told P → IfSome told Q
+pub both : {A : Type 0} (told : Option A) {P Q R : A → Type 0} → IfSome told P → IfSome told Q
     → ((x : A) → P x → Q x → R x) → IfSome told R
 both None a b f = tt
 both (Some x) a b f = f x a b
@@ -154,22 +154,26 @@ module _ (p : PlanFacts) (before now : PipeState) (pix pix_headed pix_now : Sink
       → IfSome before.pixels
         (λ pixels. (number value : ℕ) → Gives end (drive.BadPixel number value) → StopsBad p pixels number value)
       → IfSome before.pixels (λ pixels. (number : ℕ) → Gives end (drive.Ended number) → StopsShort p pixels number)
+      → IfSome before.pixels (λ pixels. IsWhole p pixels → (Gives end drive.PipeFault → ⊥)
+        → (Gives end drive.WriteFault → ⊥) → ◌≡◌ {A = Result Sent DriveEnd} (Err end) (Ok (sent_of p)))
       → WritesCapture p (before ⇒ now) (pix ⇒ pix_now) ⊥ (Err (stop_of_drive end))
-  stops (drive.BadPixel number value) some pipe_counts pix_counts bad ended = (
+  stops (drive.BadPixel number value) some pipe_counts pix_counts bad ended complete = (
     some,
     pipe_counts.calm (λ e. cc),
     pix_counts.calm (λ e. cc) ∙ headed.calm,
-    both before.pixels bad bad (λ pixels f _. f number value refl),
+    both before.pixels bad complete
+      (λ pixels f g. (f number value refl, λ whole. let done = g whole (λ e. cc) (λ e. cc) in absurd cc)),
   )
-  stops (drive.Ended number) some pipe_counts pix_counts bad ended = (
+  stops (drive.Ended number) some pipe_counts pix_counts bad ended complete = (
     some,
     pipe_counts.calm (λ e. cc),
     pix_counts.calm (λ e. cc) ∙ headed.calm,
-    both before.pixels ended ended (λ pixels f _. f number refl),
+    both before.pixels ended complete
+      (λ pixels f g. (f number refl, λ whole. let done = g whole (λ e. cc) (λ e. cc) in absurd cc)),
   )
-  stops drive.PipeFault some pipe_counts pix_counts bad ended =
+  stops drive.PipeFault some pipe_counts pix_counts bad ended complete =
       (some, pipe_counts.cause refl, pix_counts.calm (λ e. cc) ∙ headed.calm)
-  stops drive.WriteFault some pipe_counts pix_counts bad ended =
+  stops drive.WriteFault some pipe_counts pix_counts bad ended complete =
       (some, pipe_counts.calm (λ e. cc), rose_behind headed.calm (pix_counts.cause refl))
 
 -- a write of the header failed: the pipe was begun, and handed nothing

@@ -3,6 +3,7 @@ pub mod Digits
 pub mod Jobs
 pub mod Lines
 pub mod Printing
+pub mod Send
 pub mod SendLines
 pub mod Sending
 pub mod Status

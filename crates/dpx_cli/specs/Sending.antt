@@ -50,13 +50,17 @@ module _ (p : PlanFacts) (pipe : Step PipeState) (pix : Step SinkSeen) where
   abbrev pub PixIsCalm : Type 0
   PixIsCalm = pix.now.faults ≡ pix.before.faults
 
+  -- the pixels are the cause: not all of them are there and in range
+  abbrev pub PixelsStop : (List Pixel → Type 0) → Type 0
+  PixelsStop Cause = IfSome pipe.before.pixels (λ pixels. Cause pixels × (IsWhole p pixels → ⊥))
+
   -- How the capture is written, by how that ended. Where there was no memory at once, nothing was touched.
   abbrev pub WritesCapture : Type 0 → Result ⊤ Stop → Type 0
   WritesCapture Kept (Ok done) = SentAll × PipeIsCalm × PixIsCalm
   WritesCapture Kept (Err (stop.BadPixel number value)) =
-      SentSome × PipeIsCalm × PixIsCalm × IfSome pipe.before.pixels (λ pixels. StopsBad p pixels number value)
+      SentSome × PipeIsCalm × PixIsCalm × PixelsStop (λ pixels. StopsBad p pixels number value)
   WritesCapture Kept (Err (stop.PixelsEnded number)) =
-      SentSome × PipeIsCalm × PixIsCalm × IfSome pipe.before.pixels (λ pixels. StopsShort p pixels number)
+      SentSome × PipeIsCalm × PixIsCalm × PixelsStop (λ pixels. StopsShort p pixels number)
   WritesCapture Kept (Err stop.PipeFault) = SentSome × Rose pipe.before.faults pipe.now.faults × PixIsCalm
   WritesCapture Kept (Err stop.WriteFault) = SentSome × PipeIsCalm × Rose pix.before.faults pix.now.faults
   WritesCapture Kept (Err stop.NoMemory) = Kept ⊎ (SentSome × PipeIsCalm × PixIsCalm)
@@ -69,10 +73,10 @@ module _ (p : PlanFacts) (pipe : Step PipeState) (pix : Step SinkSeen) where
     PlanSent (Ok done) said = (said ≡ plan_line p ++ sent_line p) × SentAll × PipeIsCalm × PixIsCalm
     PlanSent (Err (stop.BadPixel number value)) said =
         (said ≡ plan_line p) × SentSome × PipeIsCalm × PixIsCalm
-        × IfSome pipe.before.pixels (λ pixels. StopsBad p pixels number value)
+        × PixelsStop (λ pixels. StopsBad p pixels number value)
     PlanSent (Err (stop.PixelsEnded number)) said =
         (said ≡ plan_line p) × SentSome × PipeIsCalm × PixIsCalm
-        × IfSome pipe.before.pixels (λ pixels. StopsShort p pixels number)
+        × PixelsStop (λ pixels. StopsShort p pixels number)
     PlanSent (Err stop.PipeFault) said =
         (said ≡ plan_line p) × SentSome × Rose pipe.before.faults pipe.now.faults × PixIsCalm
     PlanSent (Err stop.WriteFault) said =

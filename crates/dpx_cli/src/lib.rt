@@ -13,6 +13,7 @@ mod job;
 mod lines;
 mod printing;
 mod report;
+mod send;
 mod send_lines;
 mod sending;
 mod stop;

@@ -24,7 +24,7 @@ returns-in-Err-drive g c =
     let did = c.in-Err-drive.ensures in
     rw c.stop_of_drive.ensures
       (stops p _ _ _ _ _ headed c.in-Err-drive.end (some_sent p _ _ _ _ _ headed did.sets did.bytes) did.pipe_faults
-      did.write_faults did.bad_pixel did.ended)
+      did.write_faults did.bad_pixel did.ended did.complete)
 
 pub returns-in-Err : goal.returns-in-Err
 returns-in-Err g c =
