@@ -13,17 +13,20 @@ use Rattle.dpx_base.specs.Sets.{bytes_at, set_of, set_at, line_bytes}
 use Rattle.dpx_base.specs.Slots.{slot_at}
 use Rattle.dpx_base.specs.Symbols.{data_symbol}
 use Rattle.dpx_pack.specs.Positions.{span}
-use Rattle.dpx_pack.proofs.Spans.{length-span}
+use Rattle.dpx_pack.proofs.Spans.{length-span, get_or-span}
 use Rattle.dpx_frame.specs.Schedule.{ScheduleFacts}
 use Rattle.dpx_timing.proofs.Table.{slot_behind}
 use Rattle.dpx_buffer.specs.Lane.{lane_of}
-use Rattle.dpx_buffer.specs.Buffer.{BufferState, Holds, lane_byte}
+use Rattle.dpx_buffer.specs.Buffer.{BufferState, Holds, lane_byte, line_in}
+use Rattle.dpx_base.specs.Timing.{symbols}
+use Rattle.std.specs.Prelude.{◌/◌, ◌%◌, slice_index}
 use Rattle.dpx_source.specs.declared.ticker.Ticker.TheInside.{Inside}
-use Rattle.dpx_source.specs.Framing.{HasNoBytes}
+use Rattle.dpx_source.specs.Framing.{AreSymbols, HasNoBytes}
 use Rattle.dpx_source.specs.Inside.{state_of, IsInside}
 use Rattle.dpx_source.specs.LineSums.{active_line, sent_before}
 use Rattle.dpx_source.specs.Ticker.{TickerState, StandsFor, IsTicker, sets_given}
 use Rattle.dpx_source.proofs.Ready.{IsReady, IsTable, ready_is}
+use Rattle.dpx_source.proofs.SetSymbols.{data_set, byte_small}
 use Rattle.dpx_source.proofs.Stands.{due_waits, due_next, not_due_next, due_bytes}
 use Rattle.dpx_source.proofs.Table.{IsTold, is_table, slot_told, not_ended}
 
@@ -186,6 +189,25 @@ valid_length t bytes e takes =
     length-map bytes data_symbol
     ∙ ap length (takes e.ticker.pixels (sent_before t.plan t.clock) (held t e.ticker.pixels e.given e.ticker.stands))
     ∙ length-span _ 0 _ ∙ ap (λ (z : PlanFacts). lanes_count z.link.lanes) e.ticker.stands.plan
+
+pub valid_symbols : (t : TickerState) (bytes : List ℕ) → IsEmitting t → AreDue t.buffer bytes
+    → AreSymbols (map data_symbol bytes)
+unfolding lane_byte
+valid_symbols t bytes e takes =
+    let taken : ℕ = sent_before t.plan t.clock in
+    let xs : List Pixel = e.ticker.pixels in
+    let p : PlanFacts = t.buffer.plan in
+    let f : ℕ → ℕ = λ lane. lane_byte p xs lane taken in
+    let n : ℕ = lanes_count p.link.lanes in
+    let is : bytes ≡ span f 0 n = takes xs taken (held t xs e.given e.ticker.stands) in
+    data_set bytes (λ k few.
+    let here : k < n = omega (arith, few, ap length is, length-span f 0 n) in
+    let at : slice_index bytes k ≡ f (0 + k) = ap (λ l. slice_index l k) is ∙ get_or-span f 0 n k 0 here in
+    omega (
+      arith,
+      at,
+      byte_small (line_in p xs (taken / symbols (timing p))) (0 + k) (taken % symbols (timing p)),
+    ))
 
 -- the set of a slot without bytes is that of the clock, whatever the pixels are
 pub other_set : (t : TickerState) (slot : Slot) (pixels : List Pixel) → slot_at t.plan t.clock ≡ slot

@@ -1,6 +1,12 @@
+pub mod Drive
 pub mod Framing
+pub mod Going
 pub mod Inside
 pub mod LineSums
 pub mod Pixels
+pub mod Sender
+pub mod SenderFields
 pub mod Ticker
+pub mod Transfer
 pub mod Waiting
+pub mod WordWriter

@@ -1,9 +1,10 @@
 ghost use Rattle.std.specs.Prelude.{◌≡◌, ◌<◌, ◌+◌, ◌/◌, ℕ, List, map, replicate};
 ghost use Rattle.std.specs.List.{range_with_len};
+ghost use Rattle.dpx_base.specs.Code.{IsSymbol};
 ghost use Rattle.dpx_base.specs.Lanes.{lanes_count};
 ghost use Rattle.dpx_base.specs.Plan.{PlanFacts};
 ghost use Rattle.dpx_base.specs.Sets.{attribute_symbol, group_symbol, set_of};
-ghost use Rattle.dpx_source.specs.Framing.{IsFraming, HasNoBytes, IsIndexed, block_byte};
+ghost use Rattle.dpx_source.specs.Framing.{AreSymbols, IsFraming, HasNoBytes, IsIndexed, block_byte};
 
 use dpx_base::{LaneSet, Lanes, Slot, Stuffing, Sym};
 use dpx_msa::{attributes_bytes, column_symbol, vb_id};
@@ -35,8 +36,10 @@ const FS: u8 = 0xfe;
 const FE: u8 = 0xf7;
 
 /// A symbol of the group that begins a header.
+#[tactic(auto, using(crate::proofs::SetSymbols::bf_symbol, crate::proofs::SetSymbols::sr_symbol, crate::proofs::SetSymbols::bs_symbol))]
 fn group_symbol(index: u8, reset: bool) -> Sym
-    ensures { result ≡ group_symbol index reset }
+    ensures value { result ≡ group_symbol index reset }
+    ensures symbol { IsSymbol result }
 {
     if index == 1 || index == 2 {
         Sym::control(BF)
@@ -60,11 +63,12 @@ impl Framing {
     }
 
     /// The set of a slot.
-    #[tactic(auto, unfolding(dpx_base::specs::Sets::set_of))]
+    #[tactic(auto, using(crate::proofs::SetSymbols::be_symbol, crate::proofs::SetSymbols::fs_symbol, crate::proofs::SetSymbols::fe_symbol), unfolding(dpx_base::specs::Sets::set_of))]
     pub(crate) fn set(&self, slot: Slot) -> LaneSet
         requires { IsIndexed self.now.lanes slot }
-        ensures { (p : PlanFacts) (bytes : List ℕ) → IsFraming p self.now → HasNoBytes slot
+        ensures value { (p : PlanFacts) (bytes : List ℕ) → IsFraming p self.now → HasNoBytes slot
             → result ≡ set_of p slot bytes }
+        ensures symbols { AreSymbols result }
     {
         match slot {
             Slot::Group { index, reset } => self.each(group_symbol(index, reset)),
@@ -80,8 +84,11 @@ impl Framing {
     }
 
     /// The same symbol on each lane.
+    #[tactic(auto, using(crate::proofs::SetSymbols::on_each))]
     fn each(&self, symbol: Sym) -> LaneSet
-        ensures { result ≡ replicate (lanes_count self.now.lanes) symbol }
+        requires { IsSymbol symbol }
+        ensures value { result ≡ replicate (lanes_count self.now.lanes) symbol }
+        ensures symbols { AreSymbols result }
     {
         LaneSet::on_each(self.lanes, symbol)
     }
@@ -98,10 +105,12 @@ impl Framing {
     }
 
     /// The set of the attributes at an index.
+    #[tactic(auto, using(crate::proofs::SetSymbols::none_are, crate::proofs::SetSymbols::one_more))]
     fn attributes_set(&self, index: u8) -> LaneSet
         requires { index < 3 + 36 / lanes_count self.now.lanes }
-        ensures { (p : PlanFacts) → IsFraming p self.now
+        ensures value { (p : PlanFacts) → IsFraming p self.now
             → result ≡ map (attribute_symbol p index) (range_with_len 0 (lanes_count p.link.lanes)) }
+        ensures symbols { AreSymbols result }
     {
         match self.lanes {
             Lanes::One => LaneSet::from_slice(&[self.attribute(0, index)]),
@@ -119,10 +128,12 @@ impl Framing {
     }
 
     /// What a lane carries of the attributes at an index.
+    #[tactic(auto, using(crate::proofs::SetSymbols::ss_symbol, crate::proofs::SetSymbols::se_symbol))]
     fn attribute(&self, lane: u8, index: u8) -> Sym
         requires index { index < 3 + 36 / lanes_count self.now.lanes }
         requires lane { lane < lanes_count self.now.lanes }
-        ensures { (p : PlanFacts) → IsFraming p self.now → result ≡ attribute_symbol p index lane }
+        ensures value { (p : PlanFacts) → IsFraming p self.now → result ≡ attribute_symbol p index lane }
+        ensures symbol { IsSymbol result }
     {
         if index < 2 {
             Sym::control(SS)

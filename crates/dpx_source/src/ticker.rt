@@ -6,6 +6,7 @@ ghost use Rattle.dpx_base.specs.Lanes.{lanes_count};
 ghost use Rattle.dpx_base.specs.Mode.{depth_bits};
 ghost use Rattle.dpx_base.specs.Plan.{clocks};
 ghost use Rattle.dpx_base.specs.Sets.{set_at};
+ghost use Rattle.dpx_source.specs.Framing.{AreSymbols};
 ghost use Rattle.dpx_source.specs.Pixels.{first_bad, refused_with};
 ghost use Rattle.dpx_source.specs.Ticker.{StandsFor, shown};
 
@@ -71,6 +72,12 @@ impl Ticker {
         })
     }
 
+    pub fn plan(&self) -> &Plan
+        ensures { result.now ≡ self.now.plan }
+    {
+        &self.plan
+    }
+
     /// The set of the current clock; none behind the last. The set before it has to be followed by its pixels.
     pub fn emit(&mut self) -> Option<LaneSet>
         requires { self.old.given ≡ false }
@@ -78,6 +85,7 @@ impl Ticker {
         ensures given { self.new.given ≡ is_some result }
         ensures same { self.new ≡ record self.old { given = self.new.given; buffer = self.new.buffer } }
         ensures lanes { IfSome result (λ set. length set ≡ lanes_count self.old.plan.link.lanes) }
+        ensures symbols { IfSome result AreSymbols }
         ensures set { (pixels more : List Pixel) → StandsFor pixels self.old
             → IfSome result (λ set. set ≡ set_at self.old.plan (pixels ++ more) self.old.clock) }
         ensures stands { (pixels : List Pixel) → StandsFor pixels self.old → StandsFor pixels self.new }

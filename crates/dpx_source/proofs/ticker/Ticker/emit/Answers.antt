@@ -4,7 +4,7 @@ use Rattle.dpx_source.specs.Framing.{HasNoBytes}
 use Rattle.dpx_source.specs.Inside.{state_of}
 use Rattle.dpx_source.proofs.Emits.{emitting, slot_now, next_schedule, last_schedule, goes_on, has_ended, valid_waits}
 use Rattle.dpx_source.proofs.Emits.{valid_stands, valid_ticker, valid_set, valid_length, other_stands, other_ticker}
-use Rattle.dpx_source.proofs.Emits.{other_set, not_false}
+use Rattle.dpx_source.proofs.Emits.{other_set, not_false, valid_symbols}
 use Rattle.dpx_source.proofs.Framings.{set_length}
 use Rattle.dpx_source.proofs.Table.{slot_told, not_ended}
 use Rattle.dpx_source.proofs.ticker.Ticker.emit.Goals as goal
@@ -87,6 +87,12 @@ returns-in-Valid-clause-lanes c =
     rw (← c.self.view_is)
     (ap length c.data.ensures ∙ valid_length (state_of a) c.take_due-bytes.result e c.take_due-bytes.ensures.bytes)
 
+pub returns-in-Valid-clause-symbols : goal.returns-in-Valid-clause-symbols
+returns-in-Valid-clause-symbols c =
+    let a = c.self.inside in
+    let e = emitting a c.args.self.now c.self.view_is c.self.invariant c.requires in
+    rw c.data.ensures (valid_symbols (state_of a) c.take_due-bytes.result e c.take_due-bytes.ensures.bytes)
+
 pub returns-in-Valid-clause-set : goal.returns-in-Valid-clause-set
 returns-in-Valid-clause-set c = λ pixels more h.
     let a = c.self.inside in
@@ -120,7 +126,7 @@ returns-in_default-clause-lanes c =
     let a = c.self.inside in
     let bare : HasNoBytes c.next-slot.result = (c.in_default.not-Valid, c.in_default.not-Ended) in
     rw (← c.self.view_is)
-    (ap length (c.set.ensures a.plan [] c.self.invariant.framing bare) ∙ set_length a.plan c.next-slot.result [] bare)
+    (ap length (c.set.ensures.value a.plan [] c.self.invariant.framing bare) ∙ set_length a.plan c.next-slot.result [] bare)
 
 pub returns-in_default-clause-set : goal.returns-in_default-clause-set
 returns-in_default-clause-set c = λ pixels more h.
@@ -128,7 +134,7 @@ returns-in_default-clause-set c = λ pixels more h.
     let e = emitting a c.args.self.now c.self.view_is c.self.invariant c.requires in
     let now = slot_now a c.next-slot.result c.self.invariant e c.next-slot.ensures.slot in
     rw (← c.self.view_is)
-    (c.set.ensures a.plan (bytes_at a.plan (pixels ++ more) a.clock) c.self.invariant.framing
+    (c.set.ensures.value a.plan (bytes_at a.plan (pixels ++ more) a.clock) c.self.invariant.framing
     (c.in_default.not-Valid, c.in_default.not-Ended)
     ∙ other_set (state_of a) c.next-slot.result (pixels ++ more) now)
 
