@@ -50,17 +50,17 @@ all_told (Some x) f = f x
 emptied : (before now : Option (List (List Sym))) (sets : List (List Sym)) → now ≡ option_map (λ sets. []) before
     → IfSome now (λ handed. IsFront handed sets)
 emptied None now sets e = rw e tt
-emptied (Some old) now sets e = rw e (record { rest = sets; divided = refl })
+emptied (Some old) now sets e = rw e (record { rest = sets; is = refl })
 
 kept_empty : (now : Option (List (List Sym))) (sets : List (List Sym)) → IfSome now (λ handed. handed ≡ [])
     → IfSome now (λ handed. IsFront handed sets)
 kept_empty None sets e = tt
-kept_empty (Some handed) sets e = record { rest = sets; divided = ap (λ xs. xs ++ sets) (sym e) }
+kept_empty (Some handed) sets e = record { rest = sets; is = ap (λ xs. xs ++ sets) e }
 
 all_front : (now : Option (List (List Sym))) (sets : List (List Sym)) → IfSome now (λ handed. handed ≡ sets)
     → IfSome now (λ handed. IsFront handed sets)
 all_front None sets e = tt
-all_front (Some handed) sets e = record { rest = []; divided = sym e ∙ sym (append-nil handed) }
+all_front (Some handed) sets e = record { rest = []; is = append-nil handed ∙ e }
 
 pub nothing_taken : (taken : Option (List ℕ)) (bytes : List ℕ) → AppendsFront taken taken bytes
 nothing_taken taken bytes = record { front = []; rest = bytes; divided = refl; taken = Appends-none taken }
@@ -144,7 +144,7 @@ module _ (p : PlanFacts) (before now : PipeState) (pix pix_headed pix_now : Sink
       → SentAll p (before ⇒ now) (pix ⇒ pix_now)
   all_sent whole handed all =
       let whole_handed : IfSome before.pixels (λ pixels. IsWhole p pixels × HandedAll p pixels now) =
-        both before.pixels whole handed (λ pixels w h. (w, h)) in
+      both before.pixels whole handed (λ pixels w h. (w, h)) in
       both before.pixels whole_handed all (λ pixels w t. all_sent_of pixels w.0 w.1 t)
 
   -- how sending ended that was not done
@@ -152,24 +152,24 @@ module _ (p : PlanFacts) (before now : PipeState) (pix pix_headed pix_now : Sink
       → CountsFaults (Gives end drive.PipeFault) before.faults now.faults
       → CountsFaults (Gives end drive.WriteFault) pix_headed.faults pix_now.faults
       → IfSome before.pixels
-        (λ pixels. (number value : ℕ) → Gives end (drive.BadPixel number value) → StopsBad p pixels number value)
+      (λ pixels. (number value : ℕ) → Gives end (drive.BadPixel number value) → StopsBad p pixels number value)
       → IfSome before.pixels (λ pixels. (number : ℕ) → Gives end (drive.Ended number) → StopsShort p pixels number)
       → IfSome before.pixels (λ pixels. IsWhole p pixels → (Gives end drive.PipeFault → ⊥)
-        → (Gives end drive.WriteFault → ⊥) → ◌≡◌ {A = Result Sent DriveEnd} (Err end) (Ok (sent_of p)))
+      → (Gives end drive.WriteFault → ⊥) → ◌≡◌ {A = Result Sent DriveEnd} (Err end) (Ok (sent_of p)))
       → WritesCapture p (before ⇒ now) (pix ⇒ pix_now) ⊥ (Err (stop_of_drive end))
   stops (drive.BadPixel number value) some pipe_counts pix_counts bad ended complete = (
     some,
     pipe_counts.calm (λ e. cc),
     pix_counts.calm (λ e. cc) ∙ headed.calm,
     both before.pixels bad complete
-      (λ pixels f g. (f number value refl, λ whole. let done = g whole (λ e. cc) (λ e. cc) in absurd cc)),
+        (λ pixels f g. (f number value refl, λ whole. let done = g whole (λ e. cc) (λ e. cc) in absurd cc)),
   )
   stops (drive.Ended number) some pipe_counts pix_counts bad ended complete = (
     some,
     pipe_counts.calm (λ e. cc),
     pix_counts.calm (λ e. cc) ∙ headed.calm,
     both before.pixels ended complete
-      (λ pixels f g. (f number refl, λ whole. let done = g whole (λ e. cc) (λ e. cc) in absurd cc)),
+        (λ pixels f g. (f number refl, λ whole. let done = g whole (λ e. cc) (λ e. cc) in absurd cc)),
   )
   stops drive.PipeFault some pipe_counts pix_counts bad ended complete =
       (some, pipe_counts.cause refl, pix_counts.calm (λ e. cc) ∙ headed.calm)

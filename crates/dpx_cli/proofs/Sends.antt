@@ -18,7 +18,7 @@ use Rattle.dpx_timing.specs.Fit.{fit_of}
 use Rattle.dpx_cli.specs.declared.stop.Stop.{Stop}
 use Rattle.dpx_cli.specs.declared.stop.Stop.TheVariants as stop
 use Rattle.dpx_cli.specs.Jobs.{HasJob, JobRefused}
-use Rattle.dpx_cli.specs.Printing.{StepsDo, CommandPrints}
+use Rattle.dpx_cli.specs.Printing.{StepsDo, StopsAtOnce, CommandPrints}
 use Rattle.dpx_cli.specs.SendLines.{bad_pixel_line, pixels_ended_line, plan_line, sent_line, unfit_line}
 use Rattle.dpx_cli.specs.Sending.{shaped, PixelsStop, PlanSent, SendsAll, SentSome, SentAll, ShapeSent}
 use Rattle.dpx_cli.specs.Send.{FitJob, JobSent, SendCauses, SendDoes, SendsSome, SaysSent, SaysRefused, SaysUnfit, UnfitJob}
@@ -87,22 +87,29 @@ module _ (src : Step SourceSeen) (pipe : Step PipeState) (pix : Step SinkSeen) (
         inl (record { why = why; refused = refused; printed = text }, kept)
     refused_at (Err (stop.BadPixel number value)) said c e printed =
         let text = subst (λ (before : List ℕ). Prints out (before ++ bad_pixel_line number value)) c.sent.sent.0 printed in
-        inr (inl (number, value, record {
-          plan = plan_of c;
-          fit = fit_job c c.sent.fits;
-          some = c.sent.sent.1;
-          cause = c.sent.sent.4;
-          printed = text;
-        }))
+        inr (inl (
+          number,
+          value,
+          record {
+            plan = plan_of c;
+            fit = fit_job c c.sent.fits;
+            some = c.sent.sent.1;
+            cause = c.sent.sent.4;
+            printed = text;
+          },
+        ))
     refused_at (Err (stop.PixelsEnded number)) said c e printed =
         let text = subst (λ (before : List ℕ). Prints out (before ++ pixels_ended_line number)) c.sent.sent.0 printed in
-        inr (inr (number, record {
-          plan = plan_of c;
-          fit = fit_job c c.sent.fits;
-          some = c.sent.sent.1;
-          cause = c.sent.sent.4;
-          printed = text;
-        }))
+        inr (inr (
+          number,
+          record {
+            plan = plan_of c;
+            fit = fit_job c c.sent.fits;
+            some = c.sent.sent.1;
+            cause = c.sent.sent.4;
+            printed = text;
+          },
+        ))
     refused_at _ said c e printed = absurd cc
 
     unfit_at : (done : Result ⊤ Stop) (said : List ℕ) → SendCauses src pipe pix Kept done said → end_status done ≡ 5
@@ -209,11 +216,11 @@ module _ (src : Step SourceSeen) (pipe : Step PipeState) (pix : Step SinkSeen) (
       → IfSome src.before.left (λ bytes. StatusOfJob pipe.before.pixels (reading need.Send bytes) status)
   job_decides s fit status fits is =
       let asked : StatusOfJob pipe.before.pixels (Ok s.asked) status =
-        subst
-          (λ (told : Option Shape). IfSome told
-            (λ shape. StatusOfFit pipe.before.pixels (fit_of (shaped shape (link_asked s.asked))) status))
-          (sym s.asks)
-          (subst (λ (r : Result PlanFacts Unfit). StatusOfFit pipe.before.pixels r status) (sym fits) is)
+      subst
+      (λ (told : Option Shape). IfSome told
+      (λ shape. StatusOfFit pipe.before.pixels (fit_of (shaped shape (link_asked s.asked))) status))
+      (sym s.asks)
+      (subst (λ (r : Result PlanFacts Unfit). StatusOfFit pipe.before.pixels r status) (sym fits) is)
       in
       read_as src.before.left (Ok s.asked) status s.has.reads asked
 
@@ -275,13 +282,13 @@ module _ (src : Step SourceSeen) (pipe : Step PipeState) (pix : Step SinkSeen) (
       → SendDoes src pipe pix Kept out status
   send_does one same out status done said caused printed =
       let with_status : (n : ℕ) → status ≡ n → (n ≡ 8 → ⊥) → (n ≡ 10 → ⊥)
-        → (end_status done ≡ n) × Prints out (end_text said done) =
-        λ n e not_8 not_10. ended_with out said status done n printed e not_8 not_10 in
+      → (end_status done ≡ n) × Prints out (end_text said done) =
+      λ n e not_8 not_10. ended_with out said status done n printed e not_8 not_10 in
       let clean : IsClean status → status ≡ end_status done =
-        λ c. (ended_whole out said status done printed c.written c.memory).0 in
+      λ c. (ended_whole out said status done printed c.written c.memory).0 in
       let calm : IsClean status → AllCalm same =
-        λ c. calm_at same done said caused (λ e. c.read (clean c ∙ e)) (λ e. c.written (clean c ∙ e))
-          (λ e. c.shown (clean c ∙ e)) (λ e. c.memory (clean c ∙ e)) in
+      λ c. calm_at same done said caused (λ e. c.read (clean c ∙ e)) (λ e. c.written (clean c ∙ e))
+      (λ e. c.shown (clean c ∙ e)) (λ e. c.memory (clean c ∙ e)) in
       record {
         sent = λ e. let w = with_status 0 e (λ b. cc) (λ b. cc) in sent_at out done said caused w.0 w.1;
         refused = λ e. let w = with_status 3 e (λ b. cc) (λ b. cc) in refused_at out done said caused w.0 w.1;
@@ -301,3 +308,11 @@ module _ (src : Step SourceSeen) (pipe : Step PipeState) (pix : Step SinkSeen) (
         caused = caused;
         printed = printed;
       }
+
+  -- there was no memory for the words
+  pub unread_words_send : CaptureIsOne → (Kept → (pipe.now ≡ pipe.before) × (pix.now ≡ pix.before))
+      → (out : Step SinkSeen) (status : ℕ) → Kept → src.now ≡ src.before → StopsAtOnce out stop.NoMemory status
+      → SendDoes src pipe pix Kept out status
+  unread_words_send one same out status kept calm p =
+      send_does one same out status (Err stop.NoMemory) []
+      (inl (ap (λ (seen : SourceSeen). seen.faults) calm, kept, refl)) p

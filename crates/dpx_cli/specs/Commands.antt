@@ -1,20 +1,12 @@
 -- Which command the words ask for.
 use Rattle.std.specs.Prelude.{⊤}
 use Rattle.dpx_words.specs.declared.command.Command.{Command}
-use Rattle.dpx_words.specs.declared.command.Command.TheVariants.{Train, Send, Run, Recv, Gen}
+use Rattle.dpx_words.specs.declared.command.Command.TheVariants.{Train, Send}
 
 abbrev pub IsTrain : Command → Type 0
 IsTrain (Train job) = ⊤
-IsTrain other = ⊥
+IsTrain (Send job pixels capture workers) = ⊥
 
 abbrev pub IsSend : Command → Type 0
+IsSend (Train job) = ⊥
 IsSend (Send job pixels capture workers) = ⊤
-IsSend other = ⊥
-
-abbrev pub IsRun : Command → Type 0
-IsRun (Run job pixels capture workers) = ⊤
-IsRun other = ⊥
-
-abbrev pub IsRecv : Command → Type 0
-IsRecv (Recv capture pixels workers) = ⊤
-IsRecv other = ⊥

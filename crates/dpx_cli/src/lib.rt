@@ -1,8 +1,8 @@
 //! The commands of dp_replay: their words, their reports, and the top call.
 //!
 //! * `commands`: the top call, which finds the command in the words
-//! * `train`: the command of that name
-//! * `job`, `training`: steps that commands share
+//! * `train`, `send`: the commands of these names
+//! * `job`, `training`, `sending`: steps that commands share
 //! * `transfer`: whole reads, whole writes
 //! * `stop`, `printing`: why a command stops, what is printed and with which status it ends
 //! * `report`, `lines`, `send_lines`: the text of a report as it grows, and its lines
@@ -21,5 +21,5 @@ mod train;
 mod training;
 mod transfer;
 
-pub use commands::replay;
+pub use commands::{replay, replay_gated};
 pub use dpx_words::{Command, Name, WordsEnd, read_words};

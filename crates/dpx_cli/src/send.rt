@@ -10,12 +10,11 @@ use crate::stop::Stop;
 use dpx_base::{Gate, Pipe, Sink, Source, Workers};
 use dpx_files::{Job, Need};
 use dpx_lane::a_capture_is_one;
-use dpx_source::Driver;
 use std::alloc::Global;
 use std::thread::Threads;
 
 /// The command `send`.
-pub(crate) fn send<D: Driver, S: Source, T: Pipe, O: Sink, G: Gate, R: Threads + Sync>(
+pub(crate) fn send<S: Source, T: Pipe, O: Sink, G: Gate, R: Threads + Sync>(
     rt: &R,
     alloc: Global,
     src: &mut S,
@@ -30,11 +29,11 @@ pub(crate) fn send<D: Driver, S: Source, T: Pipe, O: Sink, G: Gate, R: Threads +
         (O.seen out.old ⇒ O.seen out.new) result }
 {
     a_capture_is_one();
-    let done = send_steps::<D, S, T, O, G, R>(rt, alloc, src, pipe, pix, out, workers, gate);
+    let done = send_steps(rt, alloc, src, pipe, pix, out, workers, gate);
     finish(alloc, out, &done)
 }
 
-fn send_steps<D: Driver, S: Source, T: Pipe, O: Sink, G: Gate, R: Threads + Sync>(
+fn send_steps<S: Source, T: Pipe, O: Sink, G: Gate, R: Threads + Sync>(
     rt: &R,
     alloc: Global,
     src: &mut S,
@@ -50,7 +49,7 @@ fn send_steps<D: Driver, S: Source, T: Pipe, O: Sink, G: Gate, R: Threads + Sync
 {
     match read_job_for(alloc, src, Need::Send)? {
         Job::Send { link, shape } => {
-            send_shape::<D, T, O, G, R>(rt, alloc, &shape, link, pipe, pix, out, workers, gate)
+            send_shape(rt, alloc, &shape, link, pipe, pix, out, workers, gate)
         }
         _ => unreachable!(),
     }

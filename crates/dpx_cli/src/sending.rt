@@ -12,14 +12,14 @@ use crate::transfer::write_whole;
 use dpx_base::{BeginEnd, Gate, Link, Pipe, Sink, Workers};
 use dpx_files::{Shape, header_bytes};
 use dpx_lane::a_capture_is_one;
-use dpx_source::{DriveEnd, Driver, Sender};
+use dpx_source::{DriveEnd, Sender, drive};
 use dpx_timing::{Plan, fit};
 use std::alloc::Global;
 use std::thread::Threads;
 
 /// Sends a job's shape over a link: finds the plan, prints it, sends its frames, and prints how much was sent. Where the
 /// mode does not fit, neither the pipe nor the sink of the capture is touched.
-pub(crate) fn send_shape<D: Driver, T: Pipe, O: Sink, G: Gate, R: Threads + Sync>(
+pub(crate) fn send_shape<T: Pipe, O: Sink, G: Gate, R: Threads + Sync>(
     rt: &R,
     alloc: Global,
     shape: &Shape,
@@ -36,12 +36,12 @@ pub(crate) fn send_shape<D: Driver, T: Pipe, O: Sink, G: Gate, R: Threads + Sync
         ((pipe.new ≡ pipe.old) × (pix.new ≡ pix.old))) (O.seen out.old ⇒ O.seen out.new) result }
 {
     match fit(&shape.mode, link, shape.unit, shape.frames) {
-        Ok(plan) => send_plan::<D, T, O, G, R>(rt, alloc, &plan, pipe, pix, out, workers, gate),
+        Ok(plan) => send_plan(rt, alloc, &plan, pipe, pix, out, workers, gate),
         Err(why) => Err(Stop::Unfit(why)),
     }
 }
 
-fn send_plan<D: Driver, T: Pipe, O: Sink, G: Gate, R: Threads + Sync>(
+fn send_plan<T: Pipe, O: Sink, G: Gate, R: Threads + Sync>(
     rt: &R,
     alloc: Global,
     plan: &Plan,
@@ -56,12 +56,12 @@ fn send_plan<D: Driver, T: Pipe, O: Sink, G: Gate, R: Threads + Sync>(
 {
     a_capture_is_one();
     print_plan(alloc, out, plan)?;
-    write_capture::<D, T, O, G, R>(rt, alloc, plan, pipe, pix, workers, gate)?;
+    write_capture(rt, alloc, plan, pipe, pix, workers, gate)?;
     print_sent(alloc, out, plan)
 }
 
 /// Begins the pipe, and writes the header and the words. All memory is taken before the pipe is begun.
-fn write_capture<D: Driver, T: Pipe, O: Sink, G: Gate, R: Threads + Sync>(
+fn write_capture<T: Pipe, O: Sink, G: Gate, R: Threads + Sync>(
     rt: &R,
     alloc: Global,
     plan: &Plan,
@@ -84,13 +84,13 @@ fn write_capture<D: Driver, T: Pipe, O: Sink, G: Gate, R: Threads + Sync>(
         plan.clocks(),
     );
     match begun {
-        Ok(()) => write_frames::<D, T, O, G, R>(rt, &mut sender, plan.link(), pipe, pix, workers, gate),
+        Ok(()) => write_frames(rt, &mut sender, plan.link(), pipe, pix, workers, gate),
         Err(end) => Err(stop_of_begin(end)),
     }
 }
 
 /// Writes the header and the words of a pipe that has just begun.
-fn write_frames<D: Driver, T: Pipe, O: Sink, G: Gate, R: Threads + Sync>(
+fn write_frames<T: Pipe, O: Sink, G: Gate, R: Threads + Sync>(
     rt: &R,
     sender: &mut Sender,
     link: Link,
@@ -106,7 +106,7 @@ fn write_frames<D: Driver, T: Pipe, O: Sink, G: Gate, R: Threads + Sync>(
         (O.seen pix.old ⇒ O.seen pix.new) ⊥ result }
 {
     match write_whole(pix, &header_bytes(link)) {
-        Ok(()) => match D::drive(rt, sender, pipe, pix, workers, gate) {
+        Ok(()) => match drive(rt, sender, pipe, pix, workers, gate) {
             Ok(_) => Ok(()),
             Err(end) => Err(stop_of_drive(end)),
         },

@@ -33,7 +33,10 @@ state [] = walk_from nothing_held
 state (v ∷ vs) =
     record {
       held = record { rows = []; pending = Some (codes "words", v ∷ vs); skip = 0 };
-      waiting = positional; position = 1; is_trailing = false; stopped = None;
+      waiting = positional;
+      position = 1;
+      is_trailing = false;
+      stopped = None;
     }
 
 not_double : (w : Text) → has_dash w ≡ false → bytes_eq w (45 ∷ 45 ∷ []) ≡ false

@@ -1,15 +1,14 @@
 -- The words of the command line: this project's own.
-use Rattle.std.specs.Prelude.{ℕ, ◌≡◌, ◌^◌, ◌&&◌, nat_le, nat_lt, if◌then◌else◌, List, [], ◌∷◌, length, codes, map, ⊤}
-use Rattle.std.specs.Prelude.{Option, Some, None, option_map, option_and_then, Result, MatchResult, String, string_bytes}
+use Rattle.std.specs.Prelude.{ℕ, ◌≡◌, if◌then◌else◌, List, [], ◌∷◌, codes, map, ⊤}
+use Rattle.std.specs.Prelude.{Option, Some, None, option_map, Result, MatchResult, String, string_bytes}
 use Rattle.std.specs.List.{list_any}
-use Rattle.std.specs.Str.{bytes_eq, all_ascii_digits}
-use Rattle.std.specs.Str.Parse.{digits_value}
+use Rattle.std.specs.Str.{bytes_eq}
 use Rattle.std.specs.declared.alloc.Global.{Global}
 use Rattle.dpx_base.specs.declared.workers.Workers.{Workers}
 use Rattle.dpx_base.specs.declared.workers.Workers.TheVariants.{One, Lanes}
 use Rattle.dpx_words.specs.Dashes.{has_dash}
 use Rattle.dpx_words.specs.declared.command.Command.{Command}
-use Rattle.dpx_words.specs.declared.command.Command.TheVariants.{Train, Send, Run, Recv, Gen}
+use Rattle.dpx_words.specs.declared.command.Command.TheVariants.{Train, Send}
 use Rattle.dpx_words.specs.declared.command.WordsEnd.{WordsEnd}
 use Rattle.dpx_words.specs.declared.command.WordsEnd.TheVariants.{Usage, Memory}
 
@@ -25,13 +24,6 @@ workers_of [] = Some Lanes
 workers_of (word ∷ []) = workers_named word
 workers_of _ = None
 
--- one to ten decimal digits, of a number of 32 bits
-abbrev pub seed_of : List ℕ → Option ℕ
-seed_of word =
-    if nat_le 1 (length word) && nat_le (length word) 10 && all_ascii_digits word && nat_lt (digits_value 10 word) (2 ^ 32)
-    then Some (digits_value 10 word)
-    else None
-
 -- the words behind the first one of each command
 abbrev pub train_of : List (List ℕ) → Option Command
 train_of (job ∷ []) = Some (Train job)
@@ -41,28 +33,12 @@ abbrev pub send_of : List (List ℕ) → Option Command
 send_of (job ∷ pixels ∷ capture ∷ rest) = option_map (λ workers. Send job pixels capture workers) (workers_of rest)
 send_of _ = None
 
-abbrev pub run_of : List (List ℕ) → Option Command
-run_of (job ∷ pixels ∷ capture ∷ rest) = option_map (λ workers. Run job pixels capture workers) (workers_of rest)
-run_of _ = None
-
-abbrev pub recv_of : List (List ℕ) → Option Command
-recv_of (capture ∷ pixels ∷ rest) = option_map (λ workers. Recv capture pixels workers) (workers_of rest)
-recv_of _ = None
-
-abbrev pub gen_of : List (List ℕ) → Option Command
-gen_of (seed ∷ rest) =
-    option_and_then (λ number. option_map (λ workers. Gen number workers) (workers_of rest)) (seed_of seed)
-gen_of _ = None
-
 -- the command of words of which none begins with a dash
 abbrev pub command_of : List (List ℕ) → Option Command
 command_of [] = None
 command_of (verb ∷ rest) =
     if bytes_eq verb (codes "train") then train_of rest
     else if bytes_eq verb (codes "send") then send_of rest
-    else if bytes_eq verb (codes "run") then run_of rest
-    else if bytes_eq verb (codes "recv") then recv_of rest
-    else if bytes_eq verb (codes "gen") then gen_of rest
     else None
 
 -- the command that the words ask for, if they have a reading

@@ -1,10 +1,7 @@
 ghost use Rattle.std.specs.Prelude.{◌≡◌, map};
-ghost use Rattle.dpx_words.specs.Reading.{workers_named, workers_of, seed_of};
+ghost use Rattle.dpx_words.specs.Reading.{workers_named, workers_of};
 
 use dpx_base::Workers;
-
-/// The most digits of a seed.
-const SEED_DIGITS: usize = 10;
 
 fn named_workers(word: &str) -> Option<Workers>
     ensures { result ≡ workers_named word.now }
@@ -27,25 +24,4 @@ pub(crate) fn read_workers(rest: &[&str]) -> Option<Workers>
         return None;
     }
     named_workers(rest[0])
-}
-
-/// A seed: a number of 32 bits in one to ten digits.
-pub(crate) fn read_seed(word: &str) -> Option<u32>
-    ensures { result ≡ seed_of word.now }
-{
-    if word.is_empty() || word.len() > SEED_DIGITS {
-        return None;
-    }
-    let mut value = 0u64;
-    let bytes = word.as_bytes();
-    for byte in bytes {
-        if !byte.is_ascii_digit() {
-            return None;
-        }
-        value = value * 10 + (*byte - b'0') as u64;
-    }
-    if value > u32::MAX as u64 {
-        return None;
-    }
-    Some(value as u32)
 }

@@ -39,7 +39,9 @@ impl Name {
 #[derive(Debug, Drop)]
 pub enum Command {
     /// Train a link, as the job in this file says.
-    Train { job: Name },
+    Train {
+        job: Name,
+    },
     /// Send the frames of a file of pixels over the job's link, into a capture.
     Send {
         job: Name,
@@ -47,21 +49,6 @@ pub enum Command {
         capture: Name,
         workers: Workers,
     },
-    /// Train, and then send over the trained link.
-    Run {
-        job: Name,
-        pixels: Name,
-        capture: Name,
-        workers: Workers,
-    },
-    /// Read a capture back into pixels.
-    Recv {
-        capture: Name,
-        pixels: Name,
-        workers: Workers,
-    },
-    /// Send and receive generated frames.
-    Gen { seed: u32, workers: Workers },
 }
 
 /// Why words are not read.

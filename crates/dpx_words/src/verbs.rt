@@ -1,7 +1,7 @@
 ghost use Rattle.std.specs.Prelude.{map};
-ghost use Rattle.dpx_words.specs.Reading.{WordsRead, train_of, send_of, run_of, recv_of, gen_of, command_of};
+ghost use Rattle.dpx_words.specs.Reading.{WordsRead, train_of, send_of, command_of};
 
-use crate::arguments::{read_seed, read_workers};
+use crate::arguments::read_workers;
 use crate::{Command, Name, WordsEnd};
 use std::alloc::Global;
 
@@ -15,9 +15,6 @@ pub(crate) fn read_command(alloc: Global, words: &[&str]) -> Result<Command, Wor
     match *verb {
         "train" => read_train(alloc, rest),
         "send" => read_send(alloc, rest),
-        "run" => read_run(alloc, rest),
-        "recv" => read_recv(alloc, rest),
-        "gen" => read_gen(rest),
         _ => Err(WordsEnd::Usage),
     }
 }
@@ -50,57 +47,4 @@ fn read_send(alloc: Global, rest: &[&str]) -> Result<Command, WordsEnd>
         capture,
         workers,
     })
-}
-
-fn read_run(alloc: Global, rest: &[&str]) -> Result<Command, WordsEnd>
-    ensures { WordsRead (run_of (map (λ word. word.now) rest.now)) result }
-{
-    if rest.len() < 3 {
-        return Err(WordsEnd::Usage);
-    }
-    let Some(workers) = read_workers(&rest[3..]) else {
-        return Err(WordsEnd::Usage);
-    };
-    let job = Name::new(alloc, rest[0])?;
-    let pixels = Name::new(alloc, rest[1])?;
-    let capture = Name::new(alloc, rest[2])?;
-    Ok(Command::Run {
-        job,
-        pixels,
-        capture,
-        workers,
-    })
-}
-
-fn read_recv(alloc: Global, rest: &[&str]) -> Result<Command, WordsEnd>
-    ensures { WordsRead (recv_of (map (λ word. word.now) rest.now)) result }
-{
-    if rest.len() < 2 {
-        return Err(WordsEnd::Usage);
-    }
-    let Some(workers) = read_workers(&rest[2..]) else {
-        return Err(WordsEnd::Usage);
-    };
-    let capture = Name::new(alloc, rest[0])?;
-    let pixels = Name::new(alloc, rest[1])?;
-    Ok(Command::Recv {
-        capture,
-        pixels,
-        workers,
-    })
-}
-
-fn read_gen(rest: &[&str]) -> Result<Command, WordsEnd>
-    ensures { WordsRead (gen_of (map (λ word. word.now) rest.now)) result }
-{
-    let [seed, rest @ ..] = rest else {
-        return Err(WordsEnd::Usage);
-    };
-    let Some(seed) = read_seed(seed) else {
-        return Err(WordsEnd::Usage);
-    };
-    let Some(workers) = read_workers(rest) else {
-        return Err(WordsEnd::Usage);
-    };
-    Ok(Command::Gen { seed, workers })
 }

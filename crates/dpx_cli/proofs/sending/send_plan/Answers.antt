@@ -32,10 +32,10 @@ returns-in_err-write_capture g c =
 pub returns : goal.returns
 returns g c =
     let printed : Prints (g.O.Sink.seen c.args.out.now ⇒ g.O.Sink.seen c.print_plan.new.out) (plan_line c.args.plan.now) =
-      search rules in
+    search rules in
     let pipe = g.T.Pipe.state c.args.pipe.now ⇒ g.T.Pipe.state c.write_capture.new.pipe in
     let pix = g.O.Sink.seen c.args.pix.now ⇒ g.O.Sink.seen c.write_capture.new.pix in
     let kept = (c.write_capture.new.pipe ≡ c.args.pipe.now) × (c.write_capture.new.pix ≡ c.args.pix.now) in
     let wrote : WritesCapture c.args.plan.now pipe pix kept (Ok tt) = search rules in
     sent_printed c.args.plan.now pipe pix kept c.a_capture_is_one.ensures _ _ _ c.print_sent.result printed wrote
-      c.print_sent.ensures
+    c.print_sent.ensures

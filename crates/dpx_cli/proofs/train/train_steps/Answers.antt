@@ -24,7 +24,7 @@ returns-clause-steps g c =
 pub returns-in_err-train_link-in-Train-clause-steps : goal.returns-in_err-train_link-in-Train-clause-steps
 returns-in_err-train_link-in-Train-clause-steps g c =
     let p = err_from_is_err_and c.from_residual-in_err-train_link-in-Train.result
-      c.from_residual-in_err-train_link-in-Train.ensures.1 in
+    c.from_residual-in_err-train_link-in-Train.ensures.1 in
     let src = g.S.Source.seen c.args.src.now ⇒ g.S.Source.seen c.read_job_for.new.src in
     let port = g.P.AuxPort.state c.args.aux.now ⇒ g.P.AuxPort.state c.train_link.new.port in
     let out = g.O.Sink.seen c.args.out.now in

@@ -18,4 +18,4 @@ reads words list none same = rw (none, same) refl
 pub returns-in-Ok : goal.returns-in-Ok
 returns-in-Ok c =
     subst (λ (read : Option Command). WordsRead read c.read_matches.result)
-      (reads _ _ (sym c.any_dash.ensures ∙ c.if-any_dash.false) c.in-Ok.ensures.ok) c.read_matches.ensures
+    (reads _ _ (sym c.any_dash.ensures ∙ c.if-any_dash.false) c.in-Ok.ensures.ok) c.read_matches.ensures
