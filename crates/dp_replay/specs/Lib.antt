@@ -1,1 +1,3 @@
+pub mod FilePipe
+pub mod FilePipeFields
 pub mod Held

@@ -1,28 +1,33 @@
 //! A replay tool for the link layer of DisplayPort: trains a link against the sink that a job
-//! describes, and prints how that ended. `dpx_cli` has the commands; here are the files.
+//! describes, sends frames into a capture, and prints how that ended. `dpx_cli` has the commands; here are the files.
 //!
 //! * `file_source`, `file_sink`: bytes from a file; bytes to a file or to standard output
+//! * `file_pipe`, `records`: frames of pixels from a file
+//! * `files`: the files of a command
 #![tactic(auto)]
 
 ghost use Rattle.std.specs.Prelude.{◌≡◌, ◌≢◌, IfOk};
-ghost use Rattle.dpx_base.specs.Faults.{Rose};
 ghost use Rattle.dpx_cli.specs.Status.{IsExitStatus};
 
+mod file_pipe;
 mod file_sink;
 mod file_source;
+mod files;
+mod records;
 #[cfg(test)]
 mod tests;
 
 use dpx_base::Memory;
-use dpx_cli::{Command, WordsEnd, read_words, replay};
+use dpx_cli::{WordsEnd, read_words, replay};
 use dpx_sinkmodel::PlanPort;
 use file_sink::FileSink;
-use file_source::FileSource;
+use files::CommandFiles;
 use std::env;
 use std::fs::File;
 use std::io::ErrorKind;
 use std::process::ExitCode;
 use std::rt::{Env, Files};
+use std::thread::Threads;
 
 fn main(rt: HostRuntime) -> ExitCode {
     let _streams = occupy_streams(&rt);
@@ -43,19 +48,30 @@ fn occupy_streams<R: Files<File = File>>(files: &R) -> [Option<File>; 3] {
 }
 
 /// Opens the files that the words name, and gives the command's status.
-fn run<R: Env + Files<File = File> + AllocGlobal>(rt: &R, out: &mut FileSink) -> Result<u8, Memory>
+fn run<R: Env + Files<File = File> + AllocGlobal + Threads + Sync>(
+    rt: &R,
+    out: &mut FileSink,
+) -> Result<u8, Memory>
     ensures statuses { IfOk result IsExitStatus }
-    ensures write_fault { IfOk result (λ status. status ≡ 8 → Rose out.old.faults out.new.faults) }
     ensures writes_are_calm { IfOk result (λ status. status ≢ 8 → out.new.faults ≡ out.old.faults) }
 {
     let words = words(rt)?;
     let mut aux = PlanPort::new(rt.alloc())?;
-    let mut src = match read_words(rt.alloc(), words.as_slice()) {
-        Ok(Command::Train { job }) => FileSource::open(rt, job.as_str()),
-        Err(WordsEnd::Usage) => FileSource::nothing(),
+    let mut files = match read_words(rt.alloc(), words.as_slice()) {
+        Ok(command) => CommandFiles::open(rt, &command),
+        Err(WordsEnd::Usage) => CommandFiles::none(),
         Err(WordsEnd::Memory) => return Err(Memory),
     };
-    Ok(replay(rt.alloc(), words.as_slice(), &mut src, &mut aux, out))
+    Ok(replay(
+        rt,
+        rt.alloc(),
+        words.as_slice(),
+        &mut files.src,
+        &mut files.pipe,
+        &mut aux,
+        &mut files.pix,
+        out,
+    ))
 }
 
 /// The words of the command line without the program's name. Where one is no text there are none:

@@ -2,13 +2,14 @@
 
 ghost use Rattle.std.specs.Prelude.{◌<◌};
 
-use dpx_base::{MemSink, MemSource, Source};
+use dpx_base::{MemPipe, MemSink, MemSource, Source};
 use dpx_cli::replay;
 use dpx_sinkmodel::PlanPort;
 use std::alloc::Global;
 use std::process::Abort;
 use std::str;
 use std::test::Fail;
+use std::thread::Threads;
 
 mod faults;
 mod histories;
@@ -79,7 +80,8 @@ impl Ran {
 }
 
 /// Runs the command of these words on a job.
-pub(crate) fn run(
+pub(crate) fn run<R: Threads + Sync>(
+    rt: &R,
     alloc: Global,
     command: &str,
     reads: Stream,
@@ -92,7 +94,18 @@ pub(crate) fn run(
     let words = words(alloc, command)?;
     let mut src = MemSource::new(job.to_vec(alloc)?, reads.size, reads.fails.to_vec(alloc)?);
     let mut out = MemSink::new(alloc, writes.size, writes.fails.to_vec(alloc)?)?;
-    let status = replay(alloc, words.as_slice(), &mut src, port, &mut out);
+    let mut pipe = MemPipe::new(Vec::new(alloc), Vec::new(alloc));
+    let mut pix = MemSink::new(alloc, 0, Vec::new(alloc))?;
+    let status = replay(
+        rt,
+        alloc,
+        words.as_slice(),
+        &mut src,
+        &mut pipe,
+        port,
+        &mut pix,
+        &mut out,
+    );
     Ok(Ran {
         printed: String::from_str(alloc, str::from_utf8(out.bytes())?)?,
         status,
@@ -101,14 +114,15 @@ pub(crate) fn run(
 }
 
 /// `train` of this job ends with this report and status.
-pub(crate) fn ends(
-    rt: &impl Abort,
+pub(crate) fn ends<R: Abort + Threads + Sync>(
+    rt: &R,
     alloc: Global,
     job: &str,
     wanted: (&str, u8),
 ) -> Result<(), Fail> {
     let mut port = PlanPort::new(alloc)?;
     let ran = run(
+        rt,
         alloc,
         "train job.json",
         CALM,

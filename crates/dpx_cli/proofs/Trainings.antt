@@ -20,7 +20,7 @@ use Rattle.dpx_cli.specs.declared.stop.Stop.TheVariants.{Job, Untrained, ReadFau
 use Rattle.dpx_cli.specs.Lines.{train_report}
 use Rattle.dpx_cli.specs.declared.stop.JobRefusal.{JobRefusal}
 use Rattle.dpx_base.specs.Faults.{Rose}
-use Rattle.dpx_cli.specs.Jobs.{HasJob, JobRefused, IsJob, IsNoJob}
+use Rattle.dpx_cli.specs.Jobs.{HasJob, JobRefused, ReadsAsJob, ReadsAsNone}
 use Rattle.dpx_cli.specs.Step.{Step, ◌⇒◌}
 use Rattle.dpx_cli.specs.Printing.{StepsDo, CommandPrints, StopsBehind, StopsAtOnce, IsReport, BreaksReport}
 use Rattle.dpx_cli.specs.Stop.{bad_of, job_line, read_fault_line, memory_line, stop_lines, stop_status}
@@ -32,14 +32,14 @@ is_some : (end : TrainEnd) (link : Link) → trained_link end ≡ Some link → 
 is_some end link e = subst (λ (trained : Option Link). IsSome trained) (sym e) refl
 
 module _ (src : Step SourceSeen) (port : Step (PortState SinkPlan)) (PortKept : Type 0) (out out_now : SinkSeen)
-    (asked : AskedJob) (has : HasJob need.Train src asked) where
-  abbrev pub job_trained : {end : TrainEnd} → TrainedWith (link_asked asked) (plan_asked asked) port end
+    (asked : AskedJob) (has : HasJob need.Train src asked) (plan : SinkPlan) (asks : plan_asked asked ≡ Some plan) where
+  abbrev pub job_trained : {end : TrainEnd} → TrainedWith (link_asked asked) plan port end
       → JobTrained need.Train src port end
-  job_trained t = record { asked = asked; has = has; trained = t }
+  job_trained t = record { asked = asked; has = has; plan = plan; asks = asks; trained = t }
 
   -- the job was read, and its link was trained
   pub training_done : (link : Link)
-      → TrainStep (link_asked asked) (plan_asked asked) port (out ⇒ out_now) (Ok link)
+      → TrainStep (link_asked asked) plan port (out ⇒ out_now) (Ok link)
       → StepsDo (TrainCauses src port PortKept) (out ⇒ out_now) (Ok tt)
   training_done link s = record {
     said = train_report s.end;
@@ -49,7 +49,7 @@ module _ (src : Step SourceSeen) (port : Step (PortState SinkPlan)) (PortKept : 
 
   -- the job was read, and the step of training stopped the command
   pub training_stopped : (stop : Stop)
-      → TrainStep (link_asked asked) (plan_asked asked) port (out ⇒ out_now) (Err stop)
+      → TrainStep (link_asked asked) plan port (out ⇒ out_now) (Err stop)
       → StepsDo (TrainCauses src port PortKept) (out ⇒ out_now) (Err stop)
   training_stopped (Untrained why) s = record {
     said = [];
@@ -74,13 +74,13 @@ module _ (src : Step SourceSeen) (port : Step (PortState SinkPlan)) (PortKept : 
 
 -- a job is not one that has no reading
 not_both : (left : Option (List ℕ)) (asked : AskedJob)
-    → IfSome left (λ bytes. reading need.Train bytes ≡ Ok asked) → IsSomeAnd left (IsNoJob need.Train) → ⊥
+    → IfSome left (λ bytes. reading need.Train bytes ≡ Ok asked) → IsSomeAnd left (ReadsAsNone need.Train) → ⊥
 not_both None asked reads none = none
 not_both (Some bytes) asked reads none =
     let clash = subst (λ (read : Result AskedJob JobBad). IsErr read) reads none in absurd cc
 
 not_both_refused : (left : Option (List ℕ)) (why : JobBad)
-    → IfSome left (λ bytes. reading need.Train bytes ≡ Err why) → IsSomeAnd left (IsJob need.Train) → ⊥
+    → IfSome left (λ bytes. reading need.Train bytes ≡ Err why) → IsSomeAnd left (ReadsAsJob need.Train) → ⊥
 not_both_refused None why reads is = is
 not_both_refused (Some bytes) why reads is =
     let clash = subst (λ (read : Result AskedJob JobBad). IsOk read) reads is in absurd cc

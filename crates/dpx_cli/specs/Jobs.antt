@@ -3,10 +3,9 @@ use Rattle.std.specs.Prelude.{◌≡◌, ◌⊎◌, ℕ, ◌+◌, ◌≤◌, Lis
 use Rattle.std.specs.Io.KnownBytes.{Consumes, IsAtEnd}
 use Rattle.dpx_base.specs.Faults.{Rose}
 use Rattle.dpx_base.specs.Seen.{SourceSeen}
-use Rattle.dpx_dpcd.specs.Model.{IsPlan}
 use Rattle.dpx_files.specs.declared.job.Job.{Job}
 use Rattle.dpx_files.specs.declared.job.Need.{Need}
-use Rattle.dpx_files.specs.Job.{reading, longest_job, plan_asked, need_of}
+use Rattle.dpx_files.specs.Job.{reading, longest_job, need_of, IsJob}
 use Rattle.dpx_cli.specs.declared.stop.JobRefusal.{JobRefusal}
 use Rattle.dpx_cli.specs.declared.stop.JobRefusal.TheVariants.{TooLong}
 use Rattle.dpx_cli.specs.declared.stop.Stop.{Stop}
@@ -15,17 +14,17 @@ use Rattle.dpx_cli.specs.Step.{Step}
 use Rattle.dpx_cli.specs.Stop.{bad_of}
 
 -- the bytes are those of a job for this need; or they are not
-abbrev pub IsJob : Need → List ℕ → Type 0
-IsJob need bytes = IsOk (reading need bytes)
+abbrev pub ReadsAsJob : Need → List ℕ → Type 0
+ReadsAsJob need bytes = IsOk (reading need bytes)
 
-abbrev pub IsNoJob : Need → List ℕ → Type 0
-IsNoJob need bytes = IsErr (reading need bytes)
+abbrev pub ReadsAsNone : Need → List ℕ → Type 0
+ReadsAsNone need bytes = IsErr (reading need bytes)
 
 -- the source had this job, and was read to its end
 pub record HasJob (need : Need) (src : Step SourceSeen) (asked : Job) : Type 0 where
   pub reads : IfSome src.before.left (λ bytes. reading need bytes ≡ Ok asked)
   pub kind : need_of asked ≡ need
-  pub plan : IsPlan (plan_asked asked)
+  pub good : IsJob asked
   pub read_whole : IsAtEnd src.now.left
   pub calm : src.now.faults ≡ src.before.faults
 

@@ -1,11 +1,14 @@
+pub mod Commands
 pub mod Digits
 pub mod Jobs
 pub mod Lines
 pub mod Printing
+pub mod Send
+pub mod SendLines
+pub mod Sending
 pub mod Status
 pub mod Step
 pub mod Stop
 pub mod Train
 pub mod Training
 pub mod Transfer
-pub mod Words

@@ -16,7 +16,7 @@ use Rattle.dpx_phase.specs.LastStatus.{IsLastReadWith}
 use Rattle.dpx_cli.specs.declared.stop.JobRefusal.{JobRefusal}
 use Rattle.dpx_cli.specs.declared.stop.Stop.{Stop}
 use Rattle.dpx_cli.specs.declared.stop.Stop.TheVariants as stop
-use Rattle.dpx_cli.specs.Jobs.{JobRefused, IsJob, IsNoJob}
+use Rattle.dpx_cli.specs.Jobs.{JobRefused, ReadsAsJob, ReadsAsNone}
 use Rattle.dpx_cli.specs.Lines.{train_report}
 use Rattle.dpx_cli.specs.Printing.{BreaksReport}
 use Rattle.dpx_cli.specs.Status.{IsClean}
@@ -92,8 +92,8 @@ module _ (src : Step SourceSeen) (port : Step (PortState SinkPlan)) (PortKept : 
     -- 3: the job has no reading; its first fault is printed, and the port is as it was
     pub refused : status ≡ 3 → SaysRefused src out × PortKept
     -- a job that has no reading is refused, and one that has a reading is trained, but for faults and want of memory
-    pub refuses : IsSomeAnd src.before.left (IsNoJob need.Train) → IsClean status → status ≡ 3
-    pub trains : IsSomeAnd src.before.left (IsJob need.Train) → IsClean status → (status ≡ 0) ⊎ (status ≡ 4)
+    pub refuses : IsSomeAnd src.before.left (ReadsAsNone need.Train) → IsClean status → status ≡ 3
+    pub trains : IsSomeAnd src.before.left (ReadsAsJob need.Train) → IsClean status → (status ≡ 0) ⊎ (status ≡ 4)
     -- 7: a read failed; that is printed, and the port is as it was
     pub read_fault : status ≡ 7 → Rose src.before.faults src.now.faults × Prints out read_fault_line × PortKept
     -- 8: a write failed, and nothing was printed but a front of the report

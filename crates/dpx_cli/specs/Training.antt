@@ -67,4 +67,6 @@ pub record JobTrained (need : Need) (src : Step SourceSeen) (port : Step (PortSt
     : Type 0 where
   pub asked : Job
   pub has : HasJob need src asked
-  pub trained : TrainedWith (link_asked asked) (plan_asked asked) port end
+  pub plan : SinkPlan
+  pub asks : plan_asked asked ≡ Some plan
+  pub trained : TrainedWith (link_asked asked) plan port end

@@ -1,32 +1,42 @@
 ghost use Rattle.std.specs.Prelude.{◌≡◌, ◌≢◌, ◌⊎◌, ◌+◌, ◌≤◌, None, IsSome, IsSomeAnd};
 ghost use Rattle.dpx_base.specs.Faults.{Rose};
 ghost use Rattle.dpx_link.specs.Training.{training_entries};
+ghost use Rattle.dpx_words.specs.Reading.{command_in};
 ghost use Rattle.dpx_cli.specs.declared.stop.Stop.{Stop};
+ghost use Rattle.dpx_cli.specs.Commands.{IsTrain, IsSend};
 ghost use Rattle.dpx_cli.specs.Printing.{StopsAtOnce};
+ghost use Rattle.dpx_cli.specs.Send.{SendDoes};
 ghost use Rattle.dpx_cli.specs.Status.{IsExitStatus, IsClean, Means};
 ghost use Rattle.dpx_cli.specs.Step.{◌⇒◌};
 ghost use Rattle.dpx_cli.specs.Train.{SaysTrained, TrainDoes};
-ghost use Rattle.dpx_cli.specs.Words.{command_in, IsTrain};
 
 use crate::printing::print_stop;
+use crate::send::send;
 use crate::stop::Stop;
 use crate::train::train;
-use crate::words::{Command, WordsEnd, read_words};
-use dpx_base::{Sink, Source};
+use dpx_base::{Gate, NoGate, Pipe, Sink, Source};
 use dpx_dpcd::LoadPort;
+use dpx_lane::a_capture_is_one;
+use dpx_words::{Command, WordsEnd, read_words};
 use std::alloc::Global;
+use std::thread::Threads;
 
 /// Does what the words of the command line ask for: `words` are those without the program's name. The job comes from
-/// `src`, its sink is loaded into `aux`, the report goes to `out`. The result is the exit status:
+/// `src`, the pixels from `pipe`, a sink is loaded into `aux`, a capture goes to `pix`, the report to `out`. The result
+/// is the exit status:
 ///
-/// * 0: trained; 4: not trained, capabilities refused, or an AUX transaction failed
-/// * 2: the words have no reading; 3: the job has none
-/// * 7: a read failed; 8: a write failed; 10: want of memory
-pub fn replay<S: Source, P: LoadPort, O: Sink>(
+/// * 0: all was done
+/// * 2: the words have no reading; 3: the job has none, or a pixel is out of range, or pixels are missing
+/// * 4: not trained, capabilities refused, or an AUX transaction failed; 5: the mode does not fit the link
+/// * 7: a read failed; 8: a write failed; 9: the pipe failed; 10: want of memory
+pub fn replay<S: Source, T: Pipe, P: LoadPort, O: Sink, R: Threads + Sync>(
+    rt: &R,
     alloc: Global,
     words: &[String],
     src: &mut S,
+    pipe: &mut T,
     aux: &mut P,
+    pix: &mut O,
     out: &mut O,
 ) -> u8
     // Whatever is answered: training asks at most 3,104 AUX requests, over all of the call, and trained is said only
@@ -41,8 +51,12 @@ pub fn replay<S: Source, P: LoadPort, O: Sink>(
     // over.
     ensures statuses { IsExitStatus result }
     ensures read_fault { result ≡ 7 → Rose (S.seen src.old).faults (S.seen src.new).faults }
-    ensures write_fault { result ≡ 8 → Rose (O.seen out.old).faults (O.seen out.new).faults }
+    ensures write_fault { result ≡ 8 → Rose (O.seen pix.old).faults (O.seen pix.new).faults
+        ⊎ Rose (O.seen out.old).faults (O.seen out.new).faults }
+    ensures pipe_fault { result ≡ 9 → Rose (T.state pipe.old).faults (T.state pipe.new).faults }
     ensures reads_are_calm { IsClean result → (S.seen src.new).faults ≡ (S.seen src.old).faults }
+    ensures pipe_is_calm { IsClean result → (T.state pipe.new).faults ≡ (T.state pipe.old).faults }
+    ensures pix_is_calm { IsClean result → (O.seen pix.new).faults ≡ (O.seen pix.old).faults }
     ensures writes_are_calm { result ≢ 8 → (O.seen out.new).faults ≡ (O.seen out.old).faults }
 
     // Words that have no reading: the usage line is printed, or that there is no memory for it, and nothing else is
@@ -50,14 +64,74 @@ pub fn replay<S: Source, P: LoadPort, O: Sink>(
     ensures usage { Means 2 (command_in words.now ≡ None) result }
     ensures usage_is_printed { command_in words.now ≡ None
         → StopsAtOnce (O.seen out.old ⇒ O.seen out.new) Stop.Usage result }
-    ensures usage_changes_only_out { command_in words.now ≡ None → (src.new ≡ src.old) × (aux.new ≡ aux.old) }
+    ensures usage_changes_only_out { command_in words.now ≡ None
+        → (src.new ≡ src.old) × (pipe.new ≡ pipe.old) × (aux.new ≡ aux.old) × (pix.new ≡ pix.old) }
 
-    // What each command does, status by status.
+    // What each command does, status by status; the objects that it does not name are as they were.
     ensures train { IsSomeAnd (command_in words.now) IsTrain → TrainDoes (S.seen src.old ⇒ S.seen src.new)
         (P.state aux.old ⇒ P.state aux.new) (aux.new ≡ aux.old) (O.seen out.old ⇒ O.seen out.new) result }
+    ensures train_keeps { IsSomeAnd (command_in words.now) IsTrain → (pipe.new ≡ pipe.old) × (pix.new ≡ pix.old) }
+    ensures send { IsSomeAnd (command_in words.now) IsSend → SendDoes (S.seen src.old ⇒ S.seen src.new)
+        (T.state pipe.old ⇒ T.state pipe.new) (O.seen pix.old ⇒ O.seen pix.new)
+        ((pipe.new ≡ pipe.old) × (pix.new ≡ pix.old)) (O.seen out.old ⇒ O.seen out.new) result }
+    ensures send_keeps { IsSomeAnd (command_in words.now) IsSend → aux.new ≡ aux.old }
 {
+    replay_gated(rt, alloc, words, src, pipe, aux, pix, out, &NoGate)
+}
+
+/// The same with a gate, which each lane's worker tells of each row that it begins.
+pub fn replay_gated<S: Source, T: Pipe, P: LoadPort, O: Sink, G: Gate, R: Threads + Sync>(
+    rt: &R,
+    alloc: Global,
+    words: &[String],
+    src: &mut S,
+    pipe: &mut T,
+    aux: &mut P,
+    pix: &mut O,
+    out: &mut O,
+    gate: &G,
+) -> u8
+    // Whatever is answered: training asks at most 3,104 AUX requests, over all of the call, and trained is said only
+    // where the last status shows every lane in use done. A port that surely tells as many entries as a training has
+    // tells its history to the end.
+    ensures bounded { (P.state aux.new).asked_in_all ≤ (P.state aux.old).asked_in_all + 3104 }
+    ensures trained { IsSomeAnd (command_in words.now) IsTrain → result ≡ 0
+        → SaysTrained (P.state aux.new) (O.seen out.old ⇒ O.seen out.new) }
+    ensures told { training_entries ≤ P.surely_told → (aux.new ≡ aux.old) ⊎ IsSome (P.state aux.new).history }
+
+    // There is no other status. A fault comes only where its object counted one, and none that was counted is passed
+    // over.
+    ensures statuses { IsExitStatus result }
+    ensures read_fault { result ≡ 7 → Rose (S.seen src.old).faults (S.seen src.new).faults }
+    ensures write_fault { result ≡ 8 → Rose (O.seen pix.old).faults (O.seen pix.new).faults
+        ⊎ Rose (O.seen out.old).faults (O.seen out.new).faults }
+    ensures pipe_fault { result ≡ 9 → Rose (T.state pipe.old).faults (T.state pipe.new).faults }
+    ensures reads_are_calm { IsClean result → (S.seen src.new).faults ≡ (S.seen src.old).faults }
+    ensures pipe_is_calm { IsClean result → (T.state pipe.new).faults ≡ (T.state pipe.old).faults }
+    ensures pix_is_calm { IsClean result → (O.seen pix.new).faults ≡ (O.seen pix.old).faults }
+    ensures writes_are_calm { result ≢ 8 → (O.seen out.new).faults ≡ (O.seen out.old).faults }
+
+    // Words that have no reading: the usage line is printed, or that there is no memory for it, and nothing else is
+    // touched.
+    ensures usage { Means 2 (command_in words.now ≡ None) result }
+    ensures usage_is_printed { command_in words.now ≡ None
+        → StopsAtOnce (O.seen out.old ⇒ O.seen out.new) Stop.Usage result }
+    ensures usage_changes_only_out { command_in words.now ≡ None
+        → (src.new ≡ src.old) × (pipe.new ≡ pipe.old) × (aux.new ≡ aux.old) × (pix.new ≡ pix.old) }
+
+    // What each command does, status by status; the objects that it does not name are as they were.
+    ensures train { IsSomeAnd (command_in words.now) IsTrain → TrainDoes (S.seen src.old ⇒ S.seen src.new)
+        (P.state aux.old ⇒ P.state aux.new) (aux.new ≡ aux.old) (O.seen out.old ⇒ O.seen out.new) result }
+    ensures train_keeps { IsSomeAnd (command_in words.now) IsTrain → (pipe.new ≡ pipe.old) × (pix.new ≡ pix.old) }
+    ensures send { IsSomeAnd (command_in words.now) IsSend → SendDoes (S.seen src.old ⇒ S.seen src.new)
+        (T.state pipe.old ⇒ T.state pipe.new) (O.seen pix.old ⇒ O.seen pix.new)
+        ((pipe.new ≡ pipe.old) × (pix.new ≡ pix.old)) (O.seen out.old ⇒ O.seen out.new) result }
+    ensures send_keeps { IsSomeAnd (command_in words.now) IsSend → aux.new ≡ aux.old }
+{
+    a_capture_is_one();
     match read_words(alloc, words) {
         Ok(Command::Train { .. }) => train(alloc, src, aux, out),
+        Ok(Command::Send { workers, .. }) => { send(rt, alloc, src, pipe, pix, out, workers, gate) }
         Err(WordsEnd::Usage) => print_stop(alloc, out, &Stop::Usage),
         Err(WordsEnd::Memory) => print_stop(alloc, out, &Stop::NoMemory),
     }

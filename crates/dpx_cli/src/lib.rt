@@ -1,12 +1,11 @@
 //! The commands of dp_replay: their words, their reports, and the top call.
 //!
 //! * `commands`: the top call, which finds the command in the words
-//! * `train`: the command of that name
-//! * `words`: the words of the command line
-//! * `job`, `training`: steps that commands share
+//! * `train`, `send`: the commands of these names
+//! * `job`, `training`, `sending`: steps that commands share
 //! * `transfer`: whole reads, whole writes
 //! * `stop`, `printing`: why a command stops, what is printed and with which status it ends
-//! * `report`, `lines`: the text of a report as it grows, and its lines
+//! * `report`, `lines`, `send_lines`: the text of a report as it grows, and its lines
 #![tactic(auto)]
 
 mod commands;
@@ -14,11 +13,13 @@ mod job;
 mod lines;
 mod printing;
 mod report;
+mod send;
+mod send_lines;
+mod sending;
 mod stop;
 mod train;
 mod training;
 mod transfer;
-mod words;
 
-pub use commands::replay;
-pub use words::{Command, Name, WordsEnd, read_words};
+pub use commands::{replay, replay_gated};
+pub use dpx_words::{Command, Name, WordsEnd, read_words};

@@ -1,14 +1,17 @@
 ghost use Rattle.std.specs.Prelude.{◌≡◌};
 ghost use Rattle.dpx_cli.specs.Lines.{train_report};
+ghost use Rattle.dpx_cli.specs.SendLines.{plan_line, sent_line};
 ghost use Rattle.dpx_cli.specs.Printing.{StepPrints, EndsWith, Finishes, StopsAtOnce};
 ghost use Rattle.dpx_cli.specs.Step.{◌⇒◌};
 
 use crate::lines::push_train_end;
 use crate::report::Report;
+use crate::send_lines::{push_plan, push_sent};
 use crate::stop::{MEMORY, Stop};
 use crate::transfer::write_whole;
 use dpx_base::Sink;
 use dpx_link::TrainEnd;
+use dpx_timing::Plan;
 use std::alloc::Global;
 
 /// Prints how training ended.
@@ -21,6 +24,24 @@ pub(crate) fn print_training<O: Sink>(
 {
     let mut report = Report::new(alloc);
     push_train_end(&mut report, end)?;
+    print(out, &report)
+}
+
+/// Prints the numbers of a plan that fits.
+pub(crate) fn print_plan<O: Sink>(alloc: Global, out: &mut O, plan: &Plan) -> Result<(), Stop>
+    ensures { StepPrints (O.seen out.old ⇒ O.seen out.new) (plan_line plan.now) result }
+{
+    let mut report = Report::new(alloc);
+    push_plan(&mut report, plan)?;
+    print(out, &report)
+}
+
+/// Prints how much was sent.
+pub(crate) fn print_sent<O: Sink>(alloc: Global, out: &mut O, plan: &Plan) -> Result<(), Stop>
+    ensures { StepPrints (O.seen out.old ⇒ O.seen out.new) (sent_line plan.now) result }
+{
+    let mut report = Report::new(alloc);
+    push_sent(&mut report, plan)?;
     print(out, &report)
 }
 

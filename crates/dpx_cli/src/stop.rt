@@ -3,8 +3,10 @@ ghost use Rattle.dpx_cli.specs.Stop.{stop_lines, stop_status, job_line, stop_of_
 
 use crate::lines::push_train_end;
 use crate::report::Report;
+use crate::send_lines::{push_bad_pixel, push_pixels_ended, push_unfit};
 use dpx_files::{Field, JobBad};
 use dpx_link::TrainEnd;
+use dpx_timing::Unfit;
 use std::alloc::AllocError;
 
 /// Why a job is refused.
@@ -23,7 +25,16 @@ pub(crate) enum Stop {
     Job(JobRefusal),
     /// Training ended otherwise than as trained.
     Untrained(TrainEnd),
+    /// The mode does not fit the link.
+    Unfit(Unfit),
+    /// This pixel, counted over all frames, has this component out of range.
+    BadPixel { number: u64, value: u16 },
+    /// The pipe holds so many pixels, and a further one is due.
+    PixelsEnded(u64),
     ReadFault,
+    /// A write of the capture, or of the pixels, failed.
+    WriteFault,
+    PipeFault,
     /// A write of the report failed: nothing more is written to it.
     OutFault,
     NoMemory,
@@ -65,9 +76,12 @@ impl Stop {
         match self {
             Stop::Usage => 2,
             Stop::Job(_) => 3,
+            Stop::BadPixel { .. } | Stop::PixelsEnded(_) => 3,
             Stop::Untrained(_) => 4,
+            Stop::Unfit(_) => 5,
             Stop::ReadFault => 7,
-            Stop::OutFault => 8,
+            Stop::WriteFault | Stop::OutFault => 8,
+            Stop::PipeFault => 9,
             Stop::NoMemory => 10,
         }
     }
@@ -80,7 +94,12 @@ impl Stop {
             Stop::Usage => report.push(USAGE),
             Stop::Job(why) => push_job(report, why),
             Stop::Untrained(end) => push_train_end(report, end),
+            Stop::Unfit(why) => push_unfit(report, *why),
+            Stop::BadPixel { number, value } => push_bad_pixel(report, *number, *value),
+            Stop::PixelsEnded(number) => push_pixels_ended(report, *number),
             Stop::ReadFault => report.push("read fault\n"),
+            Stop::WriteFault => report.push("write fault\n"),
+            Stop::PipeFault => report.push("pipe fault\n"),
             Stop::OutFault => Ok(()),
             Stop::NoMemory => report.push(MEMORY),
         }

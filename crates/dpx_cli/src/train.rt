@@ -44,5 +44,6 @@ fn train_steps<S: Source, P: LoadPort, O: Sink>(
             train_link(alloc, aux, link, sink, out)?;
             Ok(())
         }
+        _ => unreachable!(),
     }
 }

@@ -5,6 +5,7 @@ use dpx_sinkmodel::PlanPort;
 use std::alloc::Global;
 use std::process::Abort;
 use std::test::Fail;
+use std::thread::Threads;
 
 /// The report of a perfect channel with one lane at RBR.
 const REPORT: &str =
@@ -14,8 +15,8 @@ const REPORT: &str =
 const ENTRIES: usize = 12;
 
 /// `train` of this job prints this, and ends with this status and so many entries of the history.
-fn ends(
-    rt: &impl Abort,
+fn ends<R: Abort + Threads + Sync>(
+    rt: &R,
     alloc: Global,
     reads: Stream,
     writes: Stream,
@@ -26,6 +27,7 @@ fn ends(
 {
     let mut port = PlanPort::new(alloc)?;
     let ran = run(
+        rt,
         alloc,
         "train job.json",
         reads,
@@ -63,6 +65,7 @@ fn no_read_is_made_behind_one_that_fails(rt: HostRuntime) -> Result<(), Fail> {
     };
     let mut port = PlanPort::new(rt.alloc())?;
     let ran = run(
+        &rt,
         rt.alloc(),
         "train job.json",
         reads,
@@ -111,8 +114,8 @@ fn padded(alloc: Global, length: usize) -> Result<Vec<u8>, Fail> {
 }
 
 /// Of a job of so many bytes: how the command ends, and how many bytes it leaves.
-fn reads(
-    rt: &impl Abort,
+fn reads<R: Abort + Threads + Sync>(
+    rt: &R,
     alloc: Global,
     length: usize,
     fails: &[u64],
@@ -122,6 +125,7 @@ fn reads(
     let job = padded(alloc, length)?;
     let mut port = PlanPort::new(alloc)?;
     let ran = run(
+        rt,
         alloc,
         "train job.json",
         Stream { size: 1024, fails },

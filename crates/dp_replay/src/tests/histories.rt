@@ -10,6 +10,7 @@ use dpx_sinkmodel::PlanPort;
 use std::alloc::Global;
 use std::process::Abort;
 use std::test::Fail;
+use std::thread::Threads;
 
 /// What is told of a history.
 #[derive(Clone, Copy, PartialEq)]
@@ -56,9 +57,15 @@ fn push_answer(text: &mut String, answer: &Answer) -> Result<(), Fail> {
 }
 
 /// What a training of this job asks.
-fn history(alloc: Global, job: &str, told: Told) -> Result<String, Fail> {
+fn history<R: Threads + Sync>(
+    rt: &R,
+    alloc: Global,
+    job: &str,
+    told: Told,
+) -> Result<String, Fail> {
     let mut port = PlanPort::new(alloc)?;
     run(
+        rt,
         alloc,
         "train job.json",
         CALM,
@@ -107,14 +114,14 @@ wait 400
 ";
 
 /// Training of this modelled job is this conversation.
-fn converses(
-    rt: &impl Abort,
+fn converses<R: Abort + Threads + Sync>(
+    rt: &R,
     alloc: Global,
     (rate, lanes, more): (&str, u8, &str),
     expected: &str,
 ) -> Result<(), Fail> {
     let job = modelled(alloc, rate, lanes, more)?;
-    let given = history(alloc, job.as_str(), Told::All)?;
+    let given = history(rt, alloc, job.as_str(), Told::All)?;
     assert_eq!(rt; given.as_str(), expected);
     Ok(())
 }
@@ -346,15 +353,15 @@ const SILENCE: &str = "\
 ";
 
 /// Training with this script has this history.
-fn asks(
-    rt: &impl Abort,
+fn asks<R: Abort + Threads + Sync>(
+    rt: &R,
     alloc: Global,
     answers: &str,
     told: Told,
     expected: &str,
 ) -> Result<(), Fail> {
     let job = scripted(alloc, answers)?;
-    let given = history(alloc, job.as_str(), told)?;
+    let given = history(rt, alloc, job.as_str(), told)?;
     assert_eq!(rt; given.as_str(), expected);
     Ok(())
 }
@@ -369,7 +376,7 @@ fn a_scripted_sink_gets_the_drives_that_it_asks_for(rt: HostRuntime) -> Result<(
 fn framing_is_default_where_one_end_has_no_other(rt: HostRuntime) -> Result<(), Fail> {
     let answers = DONE_IN_DEFAULT_FRAMING;
     asks(&rt, rt.alloc(), answers, Told::All, DEFAULT_FRAMING)?;
-    let given = history(rt.alloc(), PLAIN_SOURCE, Told::Requests)?;
+    let given = history(&rt, rt.alloc(), PLAIN_SOURCE, Told::Requests)?;
     assert_eq!(rt; given.as_str(), PLAIN_SOURCE_TRAINS);
     Ok(())
 }

@@ -3,14 +3,15 @@ use dpx_sinkmodel::PlanPort;
 use std::alloc::Global;
 use std::process::Abort;
 use std::test::Fail;
+use std::thread::Threads;
 
 const USAGE: &str = "usage: dp_replay train JOB | send JOB PIXELS CAPTURE [one|lanes] \
     | run JOB PIXELS CAPTURE [one|lanes] | recv CAPTURE PIXELS [one|lanes] | gen SEED [one|lanes]\n";
 
 /// These words have no reading.
-fn is_usage(rt: &impl Abort, alloc: Global, words: &str) -> Result<(), Fail> {
+fn is_usage<R: Abort + Threads + Sync>(rt: &R, alloc: Global, words: &str) -> Result<(), Fail> {
     let mut port = PlanPort::new(alloc)?;
-    let ran = run(alloc, words, CALM, CALM, b"{}", &mut port)?;
+    let ran = run(rt, alloc, words, CALM, CALM, b"{}", &mut port)?;
     assert_eq!(rt; ran.ended(), (USAGE, 2), "{words}");
     Ok(())
 }
@@ -142,8 +143,8 @@ const SCRIPTS: [Scripted; 12] = [
     ("0012", "aux spent at 00000 last silent requests 8\n", 4),
 ];
 
-fn script_ends(
-    rt: &impl Abort,
+fn script_ends<R: Abort + Threads + Sync>(
+    rt: &R,
     alloc: Global,
     answers: &str,
     wanted: (&str, u8),
@@ -278,8 +279,8 @@ const MODELS: [Modelled; 7] = [
     ),
 ];
 
-fn model_ends(
-    rt: &impl Abort,
+fn model_ends<R: Abort + Threads + Sync>(
+    rt: &R,
     alloc: Global,
     (rate, lanes, more): (&str, u8, &str),
     wanted: (&str, u8),

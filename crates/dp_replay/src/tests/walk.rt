@@ -5,6 +5,7 @@ use super::{ends, modelled};
 use std::alloc::Global;
 use std::process::Abort;
 use std::test::Fail;
+use std::thread::Threads;
 
 const RATES: [&str; 4] = ["RBR", "HBR", "HBR2", "HBR3"];
 
@@ -190,7 +191,11 @@ fn trained(alloc: Global, at: Configuration, requests: usize) -> Result<String, 
 }
 
 /// The training of this sample ends where the computation says.
-fn ends_as_computed(rt: &impl Abort, alloc: Global, sample: &Sample) -> Result<(), Fail> {
+fn ends_as_computed<R: Abort + Threads + Sync>(
+    rt: &R,
+    alloc: Global,
+    sample: &Sample,
+) -> Result<(), Fail> {
     let rate = RATES[sample.top.rate % 4];
     let lanes = (sample.top.lanes % 8) as u8;
     let more = sample.members(alloc)?;

@@ -1,6 +1,8 @@
-use Rattle.std.proofs.Common.{◌≡◌, rules, Ok, Err}
+use Rattle.std.proofs.Common.{◌≡◌, rules, refl, Ok, Err}
 use Rattle.std.proofs.lemmas.Result.{err_from_is_err_and}
-use Rattle.dpx_files.specs.Job.{link_asked, plan_asked}
+use Rattle.dpx_files.specs.Job.{link_asked}
+use Rattle.dpx_cli.specs.Jobs.{HasJob}
+use Rattle.dpx_files.specs.declared.job.Need.TheVariants.{Train}
 use Rattle.dpx_cli.specs.Step.{◌⇒◌}
 use Rattle.dpx_cli.specs.Training.{TrainStep}
 use Rattle.dpx_cli.proofs.Trainings.{training_done, training_stopped}
@@ -14,19 +16,22 @@ returns-clause-steps g c =
     let out_now = g.O.Sink.seen c.train_link.new.out in
     let kept = c.train_link.new.port ≡ c.args.aux.now in
     let job = c.in_ok-link.field-0 in
-    let link = c.in_ok-train_link.field-0 in
-    let step : TrainStep (link_asked job) (plan_asked job) port (out ⇒ out_now) (Ok link) = search rules in
-    training_done src port kept out out_now job c.in_ok-link.ensures link step
+    let has : HasJob Train src job = search rules in
+    let link = c.in_ok-train_link-in-Train.field-0 in
+    let step : TrainStep (link_asked job) c.in-Train.sink port (out ⇒ out_now) (Ok link) = search rules in
+    training_done src port kept out out_now job has c.in-Train.sink (search rules) link step
 
-pub returns-in_err-train_link-clause-steps : goal.returns-in_err-train_link-clause-steps
-returns-in_err-train_link-clause-steps g c =
-    let p = err_from_is_err_and c.from_residual-in_err-train_link.result c.from_residual-in_err-train_link.ensures.1 in
+pub returns-in_err-train_link-in-Train-clause-steps : goal.returns-in_err-train_link-in-Train-clause-steps
+returns-in_err-train_link-in-Train-clause-steps g c =
+    let p = err_from_is_err_and c.from_residual-in_err-train_link-in-Train.result
+    c.from_residual-in_err-train_link-in-Train.ensures.1 in
     let src = g.S.Source.seen c.args.src.now ⇒ g.S.Source.seen c.read_job_for.new.src in
     let port = g.P.AuxPort.state c.args.aux.now ⇒ g.P.AuxPort.state c.train_link.new.port in
     let out = g.O.Sink.seen c.args.out.now in
     let out_now = g.O.Sink.seen c.train_link.new.out in
     let kept = c.train_link.new.port ≡ c.args.aux.now in
     let job = c.in_ok-link.field-0 in
-    let stop = c.in_err-train_link.field-0.0 in
-    let step : TrainStep (link_asked job) (plan_asked job) port (out ⇒ out_now) (Err stop) = search rules in
-    rw p.1 (training_stopped src port kept out out_now job c.in_ok-link.ensures p.0 (rw p.2 step))
+    let has : HasJob Train src job = search rules in
+    let stop = c.in_err-train_link-in-Train.field-0.0 in
+    let step : TrainStep (link_asked job) c.in-Train.sink port (out ⇒ out_now) (Err stop) = search rules in
+    rw p.1 (training_stopped src port kept out out_now job has c.in-Train.sink (search rules) p.0 (rw p.2 step))

@@ -1,6 +1,6 @@
 ghost use Rattle.std.specs.Prelude.{◌≡◌, IfOk};
-ghost use Rattle.dpx_cli.specs.Words.{command_in, WordsRead, is_name};
 
+use dpx_base::Workers;
 use std::alloc::{AllocError, Global};
 use std::marker::Model;
 use thiserror::Error;
@@ -20,7 +20,7 @@ impl Model for Name {
 }
 
 impl Name {
-    fn new(alloc: Global, text: &str) -> Result<Name, AllocError>
+    pub(crate) fn new(alloc: Global, text: &str) -> Result<Name, AllocError>
         ensures { IfOk result (λ name. name ≡ text.now) }
     {
         Ok(Name {
@@ -39,7 +39,16 @@ impl Name {
 #[derive(Debug, Drop)]
 pub enum Command {
     /// Train a link, as the job in this file says.
-    Train { job: Name },
+    Train {
+        job: Name,
+    },
+    /// Send the frames of a file of pixels over the job's link, into a capture.
+    Send {
+        job: Name,
+        pixels: Name,
+        capture: Name,
+        workers: Workers,
+    },
 }
 
 /// Why words are not read.
@@ -51,24 +60,13 @@ pub enum WordsEnd {
     Memory,
 }
 
-/// Reads the words of the command line, without the program's name.
-pub fn read_words(alloc: Global, words: &[String]) -> Result<Command, WordsEnd>
-    ensures { WordsRead (command_in words.now) result }
-{
-    let [word, job] = words else {
-        return Err(WordsEnd::Usage);
-    };
-    if word.as_str() != "train" || !is_name(job.as_str()) {
-        return Err(WordsEnd::Usage);
-    }
-    match Name::new(alloc, job.as_str()) {
-        Ok(job) => Ok(Command::Train { job }),
-        Err(_) => Err(WordsEnd::Memory),
-    }
-}
+impl From<AllocError> for WordsEnd {
+    ghost use Rattle.std.specs.Prelude.{◌≡◌};
+    ghost use Rattle.dpx_words.specs.declared.command.WordsEnd.TheVariants.{Memory};
 
-fn is_name(word: &str) -> bool
-    ensures { result ≡ is_name word.now }
-{
-    word.as_bytes().first() != Some(&b'-')
+    ghost from_gives = { λ _ end. end ≡ Memory };
+
+    fn from(_refused: AllocError) -> WordsEnd {
+        WordsEnd::Memory
+    }
 }

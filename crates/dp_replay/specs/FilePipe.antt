@@ -1,0 +1,23 @@
+-- What contracts see of a pipe over a file, which tells nothing of contents: this project's own.
+use Rattle.std.specs.Prelude.{ℕ, Bool, Option, None}
+use Rattle.dpx_base.specs.Beam.{Shown}
+use Rattle.dpx_base.specs.Pipe.{PipeState}
+
+pub record PipeFacts : Type 0 where
+  pub begun : Option Shown
+  pub clocks : ℕ
+  pub clock : ℕ
+  pub refused : Bool
+  pub faults : ℕ
+
+-- it tells neither its pixels nor its sets
+abbrev pub told_of : PipeFacts → PipeState
+told_of p = record {
+  begun = p.begun;
+  clocks = p.clocks;
+  clock = p.clock;
+  refused = p.refused;
+  faults = p.faults;
+  pixels = None;
+  sets = None;
+}

@@ -1,0 +1,44 @@
+use crate::file_pipe::FilePipe;
+use crate::file_sink::FileSink;
+use crate::file_source::FileSource;
+use dpx_cli::Command;
+use std::fs::File;
+use std::rt::Files;
+
+/// The files of a command; nothing where it has none.
+#[derive(Drop)]
+pub struct CommandFiles {
+    pub src: FileSource,
+    pub pipe: FilePipe,
+    pub pix: FileSink,
+}
+
+impl CommandFiles {
+    pub fn none() -> CommandFiles {
+        CommandFiles {
+            src: FileSource::nothing(),
+            pipe: FilePipe::new(FileSource::nothing()),
+            pix: FileSink::nothing(),
+        }
+    }
+
+    /// Opens the files in the order of the words.
+    pub fn open<R: Files<File = File>>(rt: &R, command: &Command) -> CommandFiles {
+        match command {
+            Command::Train { job } => CommandFiles {
+                src: FileSource::open(rt, job.as_str()),
+                ..CommandFiles::none()
+            },
+            Command::Send {
+                job,
+                pixels,
+                capture,
+                ..
+            } => CommandFiles {
+                src: FileSource::open(rt, job.as_str()),
+                pipe: FilePipe::new(FileSource::open(rt, pixels.as_str())),
+                pix: FileSink::create(rt, capture.as_str()),
+            },
+        }
+    }
+}

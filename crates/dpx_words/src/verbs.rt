@@ -1,0 +1,50 @@
+ghost use Rattle.std.specs.Prelude.{map};
+ghost use Rattle.dpx_words.specs.Reading.{WordsRead, train_of, send_of, command_of};
+
+use crate::arguments::read_workers;
+use crate::{Command, Name, WordsEnd};
+use std::alloc::Global;
+
+/// The command that words ask for of which none begins with a dash.
+pub(crate) fn read_command(alloc: Global, words: &[&str]) -> Result<Command, WordsEnd>
+    ensures { WordsRead (command_of (map (λ word. word.now) words.now)) result }
+{
+    let [verb, rest @ ..] = words else {
+        return Err(WordsEnd::Usage);
+    };
+    match *verb {
+        "train" => read_train(alloc, rest),
+        "send" => read_send(alloc, rest),
+        _ => Err(WordsEnd::Usage),
+    }
+}
+
+fn read_train(alloc: Global, rest: &[&str]) -> Result<Command, WordsEnd>
+    ensures { WordsRead (train_of (map (λ word. word.now) rest.now)) result }
+{
+    if rest.len() != 1 {
+        return Err(WordsEnd::Usage);
+    }
+    let job = Name::new(alloc, rest[0])?;
+    Ok(Command::Train { job })
+}
+
+fn read_send(alloc: Global, rest: &[&str]) -> Result<Command, WordsEnd>
+    ensures { WordsRead (send_of (map (λ word. word.now) rest.now)) result }
+{
+    if rest.len() < 3 {
+        return Err(WordsEnd::Usage);
+    }
+    let Some(workers) = read_workers(&rest[3..]) else {
+        return Err(WordsEnd::Usage);
+    };
+    let job = Name::new(alloc, rest[0])?;
+    let pixels = Name::new(alloc, rest[1])?;
+    let capture = Name::new(alloc, rest[2])?;
+    Ok(Command::Send {
+        job,
+        pixels,
+        capture,
+        workers,
+    })
+}
