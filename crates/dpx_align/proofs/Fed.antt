@@ -8,7 +8,9 @@ use Rattle.std.proofs.lemmas.Bool.{false≢true}
 use Rattle.dpx_base.specs.Lanes.{lanes_count}
 use Rattle.dpx_base.specs.Words.{words_of}
 use Rattle.dpx_base.specs.declared.sym.Sym.{Sym}
+use Rattle.dpx_lane.proofs.BadWords.{fault_is}
 use Rattle.dpx_lane.proofs.Teams.{team_reads}
+use Rattle.dpx_lane.specs.Reading.{IsFault}
 use Rattle.dpx_lane.specs.Receiving.{HasRead, ReadsRow, good_clocks}
 use Rattle.dpx_lane.specs.Team.{LanesDo, TeamRead, joined}
 use Rattle.dpx_lane.specs.declared.lane_fault.LaneFault.{LaneFault}
@@ -22,7 +24,8 @@ use Rattle.dpx_align.specs.declared.align_bad.AlignBad.{AlignBad}
 use Rattle.dpx_align.specs.declared.aligner.Aligner.{Aligner}
 use Rattle.dpx_align.proofs.FedOn.{WentOn, symbols_on}
 use Rattle.dpx_align.proofs.FirstFaults.{no_fault_on, fault_on, first_fault_on, first_stays, not_before, place_is}
-use Rattle.dpx_align.proofs.Teams.{read_sizes, done_sizes, AllLong, AtMost, words_of-joined, length-joined, cut_all}
+use Rattle.dpx_align.proofs.FirstFaults.{not_sooner, no_other}
+use Rattle.dpx_align.proofs.Teams.{read_of, read_sizes, done_sizes, AllLong, AtMost, words_of-joined, length-joined, cut_all}
 use Rattle.dpx_align.proofs.Teams.{cut_on}
 
 read_none : (s : LaneRx) → HasRead s [] [] → good_clocks s ≤ 0
@@ -42,8 +45,10 @@ pub none_of : (bad : Option AlignBad) → is_some bad ≡ false → bad ≡ None
 none_of None h = refl
 none_of (Some bad) h = absurd (false≢true (sym h))
 
-no_two : (s : LaneRx) (fault : LaneFault) → s.fault ≡ None → s.fault ≡ Some fault → ⊥
-no_two s fault a b = cc
+own_fault : (states : List LaneRx) (words left : List (List ℕ)) → TeamRead states words left → (j : ℕ) (s : LaneRx)
+    → slice_get states j ≡ Some s → IsFault (words_of words j) s.fault
+own_fault states words left h j s k =
+    fault_is s (words_of words j) (words_of left j) (read_of states words left h j s k)
 
 none_known : (bad : AlignBad) → Some bad ≡ None → ⊥
 none_known bad e = cc
@@ -66,12 +71,15 @@ stays_by (Some bad) words rows plain fed h size even f c =
     cut_on clock words rows size (λ j l. omega (arith, f.fault.bad.within, even lane f.fault.within, even j l)) in
     (first_stays words rows bad fed size even f, subst (λ (x : List (List ℕ)). Symbols x plain) (sym front) c)
 
--- behind a word fault nothing changes
-pub fed_stays : (a b : Aligner) (words rows : List (List ℕ)) (plain : List (List Sym)) (n : ℕ)
+lengthened_none : (plain : List (List Sym)) → lengthened plain [] ≡ plain
+lengthened_none [] = refl
+lengthened_none (x ∷ xs) = refl
+
+fed_same : (a b : Aligner) (words rows : List (List ℕ)) (plain : List (List Sym)) (n : ℕ)
     → b.team ≡ a.team → b.deskew ≡ a.deskew → b.bad ≡ a.bad → b.clocks ≡ a.clocks + n → is_some a.bad ≡ true
     → length rows ≡ lanes_count a.team.lanes → AllLong rows n → WasFed a words plain
     → WasFed b (joined words rows) plain
-fed_stays a b words rows plain n team deskew bad clocks found count long w =
+fed_same a b words rows plain n team deskew bad clocks found count long w =
     let size : length rows ≡ length words = count ∙ sym w.size in
     let r = stays_by a.bad words rows plain a.clocks found size w.even w.fault w.counted in
     record {
@@ -83,11 +91,20 @@ fed_stays a b words rows plain n team deskew bad clocks found count long w =
       reads = λ e. absurd (false≢true (sym (ap is_some (sym bad ∙ e)) ∙ found));
     }
 
+-- behind a word fault nothing changes
+pub fed_stays : (a b : Aligner) (words rows : List (List ℕ)) (plain : List (List Sym)) (n : ℕ)
+    → b.team ≡ a.team → b.deskew ≡ a.deskew → b.bad ≡ a.bad → b.clocks ≡ a.clocks + n → is_some a.bad ≡ true
+    → length rows ≡ lanes_count a.team.lanes → AllLong rows n → WasFed a words plain
+    → WasFed b (joined words rows) (lengthened plain [])
+fed_stays a b words rows plain n team deskew bad clocks found count long w =
+    subst (λ (x : List (List Sym)). WasFed b (joined words rows) x) (sym (lengthened_none plain))
+    (fed_same a b words rows plain n team deskew bad clocks found count long w)
+
 -- no word fault in the next clocks
 pub fed_none : (a b : Aligner) (words rows outs : List (List ℕ)) (plain : List (List Sym)) (n count : ℕ)
     → b.team.lanes ≡ a.team.lanes → b.bad ≡ a.bad → a.bad ≡ None → b.clocks ≡ a.clocks + n → count ≡ n
     → LanesDo ReadsRow a.team.states rows b.team.states outs → length rows ≡ lanes_count a.team.lanes → AllLong rows n
-    → FirstOf b.team.states (lanes_count b.team.lanes) None
+    → ((all left : List (List ℕ)) → TeamRead b.team.states all left → FirstOf all (lanes_count b.team.lanes) None)
     → HasTaken b.deskew (lengthened plain (map (λ row. take count row) (decoded outs))) → WasFed a words plain
     → WasFed b (joined words rows) (lengthened plain (map (λ row. take count row) (decoded outs)))
 fed_none a b words rows outs plain n count lanes bad none clocks all does many long first took w =
@@ -101,8 +118,8 @@ fed_none a b words rows outs plain n count lanes bad none clocks all does many l
     let total = length-joined words rows size in
     let number : lanes_count b.team.lanes ≡ length (joined words rows) =
     ap lanes_count lanes ∙ (sym w.size ∙ sym total) in
-    let sound = no_fault_on b.team.states (joined words rows) (joined left outs)
-    (lanes_count b.team.lanes) number first after in
+    let here = first (joined words rows) (joined left outs) after in
+    let sound = no_fault_on (joined words rows) (lanes_count b.team.lanes) number here in
     let went : WentOn a.team.states b.team.states words left rows outs plain fed n (fed + n) = record {
       rows_size = size;
       outs_size = done.1 ∙ sizes.0;
@@ -115,7 +132,9 @@ fed_none a b words rows outs plain n count lanes bad none clocks all does many l
       left_size = sizes.1;
       from = omega arith;
       within = omega arith;
-      faults = λ lane s fault l k e. absurd (no_two s fault (first lane s (omega (arith, l, number, total)) k) e);
+      faults = λ lane s fault l k e.
+          absurd (no_other (joined words rows) (lanes_count b.team.lanes) here lane (omega (arith, l, number, total))
+          s.fault (own_fault b.team.states (joined words rows) (joined left outs) after lane s k) fault e);
     } in
     let symbols = symbols_on a.team.states b.team.states words left rows outs plain fed n (fed + n) went in
     let whole = cut_all (fed + n) (joined words rows)
@@ -141,7 +160,8 @@ pub fed_some : (a b : Aligner) (words rows outs : List (List ℕ)) (plain : List
     (fault : LaneFault) → b.team.lanes ≡ a.team.lanes → b.bad ≡ Some (bad_of lane fault) → a.bad ≡ None
     → b.clocks ≡ a.clocks + n → next ≡ n → count ≡ min (fault.clock - a.clocks) next
     → LanesDo ReadsRow a.team.states rows b.team.states outs → length rows ≡ lanes_count a.team.lanes → AllLong rows n
-    → FirstOf b.team.states (lanes_count b.team.lanes) (Some (lane, fault))
+    → ((all left : List (List ℕ)) → TeamRead b.team.states all left
+    → FirstOf all (lanes_count b.team.lanes) (Some (lane, fault)))
     → HasTaken b.deskew (lengthened plain (map (λ row. take count row) (decoded outs))) → WasFed a words plain
     → WasFed b (joined words rows) (lengthened plain (map (λ row. take count row) (decoded outs)))
 fed_some a b words rows outs plain n next count lane fault lanes bad none clocks all least does many long first took w =
@@ -157,9 +177,8 @@ fed_some a b words rows outs plain n next count lane fault lanes bad none clocks
     let number : lanes_count b.team.lanes ≡ length (joined words rows) =
     ap lanes_count lanes ∙ (sym w.size ∙ sym total) in
     let sound = subst (λ x. IsFaultOf words x) none w.fault in
-    let stands =
-    fault_on b.team.states (joined words rows) (joined left outs) (lanes_count b.team.lanes)
-    (lane, fault) number first after in
+    let here = first (joined words rows) (joined left outs) after in
+    let stands = fault_on (joined words rows) (lanes_count b.team.lanes) (lane, fault) number here in
     let low : fed ≤ clock = not_before words rows clock lane fed size w.even sound stands in
     let high : clock < fed + n =
     omega (arith, stands.bad.within, even_on words rows fed n size w.even long lane stands.within) in
@@ -175,7 +194,10 @@ fed_some a b words rows outs plain n next count lane fault lanes bad none clocks
       left_size = sizes.1;
       from = low;
       within = omega (arith, high);
-      faults = λ j s other l k e. first.2 j s other (omega (arith, l, number, total)) k e;
+      faults = λ j s other l k e.
+          not_sooner (joined words rows) (lanes_count b.team.lanes) (lane, fault) here j
+          (omega (arith, l, number, total)) s.fault
+          (own_fault b.team.states (joined words rows) (joined left outs) after j s k) other e;
     } in
     let symbols = symbols_on a.team.states b.team.states words left rows outs plain fed n clock went in
     let same : clock - fed ≡ count = omega (arith, least, all, low, high) in
@@ -190,9 +212,7 @@ fed_some a b words rows outs plain n next count lane fault lanes bad none clocks
       size = total ∙ (w.size ∙ ap lanes_count (sym lanes));
       even = λ j l. even_on words rows fed n size w.even long j l ∙ sym clocks;
       fault = subst (λ x. IsFaultOf (joined words rows) x) (sym bad)
-          (first_fault_on b.team.states (joined words rows) (joined left outs) (lanes_count b.team.lanes)
-          (lane, fault) number
-          first after);
+          (first_fault_on (joined words rows) (lanes_count b.team.lanes) (lane, fault) number here);
       counted = subst (λ x. CountedTo (joined words rows) x now) (sym bad) kept;
       taken = took;
       reads = λ e. absurd (none_known (bad_of lane fault) (sym bad ∙ e));

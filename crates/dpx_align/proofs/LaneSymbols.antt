@@ -22,7 +22,7 @@ symbols_once words a b h k =
     coded_map k.from k.coded words k.end k.code ∙ sym (coded_map h.from h.coded words h.end h.code) in
     keyed_once h.coded a b h.key (subst (λ (x : List Sym). Keyed x b) e k.key)
 
-symbols_length : (words : List ℕ) (plain : List Sym) → LaneSymbols words plain → length plain ≡ length words
+pub symbols_length : (words : List ℕ) (plain : List Sym) → LaneSymbols words plain → length plain ≡ length words
 symbols_length words plain h = h.key.size ∙ coded_length h.from h.coded words h.end h.code
 
 symbols_front : (n : ℕ) (words : List ℕ) (plain : List Sym) → n ≤ length words → LaneSymbols words plain

@@ -1,5 +1,6 @@
 pub mod Answered
 pub mod Beginning
+pub mod Completing
 pub mod Fed
 pub mod FedOn
 pub mod FirstFaults
@@ -7,6 +8,7 @@ pub mod LaneSymbols
 pub mod LockStays
 pub mod Meeting
 pub mod Once
+pub mod OneFault
 pub mod Scanned
 pub mod Scanning
 pub mod Seeking
@@ -14,6 +16,7 @@ pub mod SentRows
 pub mod SentSets
 pub mod SentThere
 pub mod SentWay
+pub mod SetsStay
 pub mod Stepping
 pub mod Steps
 pub mod Taking

@@ -20,6 +20,18 @@ read_at (s ∷ states) (w ∷ words) [] h j l = absurd h
 read_at (s ∷ states) (w ∷ words) (x ∷ left) h zero l = (s, refl, h.0)
 read_at (s ∷ states) (w ∷ words) (x ∷ left) h (suc j) l = read_at states words left h.1 j (omega arith)
 
+pub read_of : (states : List LaneRx) (words left : List (List ℕ)) → TeamRead states words left → (j : ℕ)
+    (s : LaneRx) → slice_get states j ≡ Some s → HasRead s (words_of words j) (words_of left j)
+read_of [] [] [] h j t k = cc
+read_of [] [] (x ∷ left) h j t k = absurd h
+read_of [] (w ∷ words) left h j t k = absurd h
+read_of (s ∷ states) [] left h j t k = absurd h
+read_of (s ∷ states) (w ∷ words) [] h j t k = absurd h
+read_of (s ∷ states) (w ∷ words) (x ∷ left) h zero t k =
+    let same : s ≡ t = cc in
+    subst (λ (y : LaneRx). HasRead y w x) same h.0
+read_of (s ∷ states) (w ∷ words) (x ∷ left) h (suc j) t k = read_of states words left h.1 j t k
+
 pub read_sizes : (states : List LaneRx) (words left : List (List ℕ)) → TeamRead states words left
     → (length states ≡ length words) × (length left ≡ length words)
 read_sizes [] [] [] h = (refl, refl)

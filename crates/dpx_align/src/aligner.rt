@@ -5,6 +5,7 @@ ghost use Rattle.dpx_base.specs.declared.sym.Sym.{Sym};
 ghost use Rattle.dpx_lane.specs.Receiving.{good_clocks};
 ghost use Rattle.dpx_lane.specs.Team.{joined};
 ghost use Rattle.dpx_lane.specs.declared.lane_rx.LaneRx.{LaneRx};
+ghost use Rattle.dpx_align.specs.Search.{lengthened};
 
 use crate::align_bad::align_bad;
 use crate::deskew::Deskew;
@@ -69,7 +70,7 @@ impl Aligner {
         requires stepped { CanFeed self.old }
         requires few { clocks_fed self.old + rows.old.clocks < 2 ^ 62 }
         ensures fed { (words : List (List ℕ)) (plain : List (List Sym)) → WasFed self.old words plain
-            → (more : List (List Sym)) × WasFed self.new (joined words rows.old.rows) more }
+            → (more : List (List Sym)) × WasFed self.new (joined words rows.old.rows) (lengthened plain more) }
         ensures clocks { clocks_fed self.new ≡ clocks_fed self.old + rows.old.clocks }
         ensures given { sets_given self.new ≡ sets_given self.old }
         ensures link { (lanes_of self.new ≡ lanes_of self.old) × (is_enhanced self.new ≡ is_enhanced self.old) }

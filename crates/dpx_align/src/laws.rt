@@ -1,5 +1,16 @@
-//! What the definitions of lock and sets obey. The function's contract is the law.
+//! What the definitions of faults, locks and sets obey. A function's contract is the law.
 ghost use Rattle.dpx_align.specs.Laws.{SentIsReceived, SetsHaveWords, WordsHaveSymbols};
+ghost use Rattle.dpx_align.specs.Laws.{FaultsAreOne, SetsAreOne, SetsStay, CompletesOnce, SetsComeFirst};
+
+/// The first word fault is one, with its reason. A number has one set, which stays as clocks are added. It is complete
+/// at one clock; a set of the clocks before a word fault at a clock before that fault's.
+pub fn sets_come_before_the_fault()
+    ensures fault { FaultsAreOne }
+    ensures set { SetsAreOne }
+    ensures stays { SetsStay }
+    ensures clock { CompletesOnce }
+    ensures before { SetsComeFirst }
+{}
 
 /// The words of sets whose first SR begins a group have no word fault. They lock at that SR's clock on lane 0, and give
 /// back exactly the sets from it on. All sets of data and of the nine control symbols have words, and all such words

@@ -4,7 +4,7 @@
 //! * `deskew`: the sets of symbols
 //! * `align_bad`, `first_fault`: a word fault, and the first of the lanes' faults
 //! * `step`, `aligner`: the sets and the first word fault of words
-//! * `laws`: the words that a source sends are received
+//! * `laws`: what the definitions obey; the words that a source sends are received
 #![tactic(auto)]
 
 mod align_bad;
@@ -18,5 +18,5 @@ mod step;
 
 pub use align_bad::AlignBad;
 pub use aligner::Aligner;
-pub use laws::sent_sets_are_received;
+pub use laws::{sent_sets_are_received, sets_come_before_the_fault};
 pub use step::{NoLock, Step};

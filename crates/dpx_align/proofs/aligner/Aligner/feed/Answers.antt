@@ -8,7 +8,7 @@ use Rattle.dpx_align.proofs.aligner.Aligner.feed.Goals as goal
 
 pub returns-then-is_some-clause-fed : goal.returns-then-is_some-clause-fed
 returns-then-is_some-clause-fed g c words plain w = (
-  plain,
+  [],
   fed_stays c.args.self.now _ words c.args.rows.now.rows plain c.len-next.result refl refl refl refl
       (sym c.is_some.ensures ∙ c.if-is_some.true) (c.len-next.ensures.lanes ∙ ap lanes_count c.requires.lanes)
       (λ j l. c.len-next.ensures.even j (omega (arith, l, c.len-next.ensures.lanes)) ∙ sym c.len-next.ensures.value) w,
@@ -67,7 +67,7 @@ returns-in-None-clause-fed g c words plain w =
     let outs = c.run.new.rows.rows in
     let next = c.len-next.result in
     let count = c.len.result in (
-      lengthened plain (map (λ (row : List Sym). take count row) (decoded outs)),
+      map (λ (row : List Sym). take count row) (decoded outs),
       fed_none c.args.self.now _ words c.args.rows.now.rows outs plain next count c.run.ensures.lanes refl
           (none_of c.args.self.now.bad (sym c.is_some.ensures ∙ c.if-is_some.false)) refl
           (c.len.ensures.value ∙ (c.run.ensures.clocks ∙ sym c.len-next.ensures.value)) c.run.ensures.does
@@ -81,7 +81,7 @@ returns-in-Some-clause-fed g c words plain w =
     let outs = c.run.new.rows.rows in
     let next = c.len-next.result in
     let count = c.clocks_before-count.result in (
-      lengthened plain (map (λ (row : List Sym). take count row) (decoded outs)),
+      map (λ (row : List Sym). take count row) (decoded outs),
       fed_some c.args.self.now _ words c.args.rows.now.rows outs plain next c.len-in-Some.result count c.in-Some.lane
           c.in-Some.fault c.run.ensures.lanes (ap Some c.align_bad.ensures)
           (none_of c.args.self.now.bad (sym c.is_some.ensures ∙ c.if-is_some.false)) refl
