@@ -8,7 +8,7 @@ use Rattle.dpx_base.specs.Mode.{depth_bits}
 use Rattle.dpx_base.specs.PixelRecord.{pixel_record}
 use Rattle.dpx_grammar.specs.Accepted.{Frame}
 use Rattle.dpx_msa.specs.declared.attributes.Attributes.{Attributes}
-use Rattle.dpx_reception.specs.Reception.{Fault, Reception}
+use Rattle.dpx_reception.specs.Reception.{Fault, Reception, PartlyReceived}
 
 -- the records of pixels, of a frame's whole lines, and of all frames'
 unfoldable pub pixel_records : List Pixel → List ℕ
@@ -52,5 +52,12 @@ pub record Due (link : Link) (bytes : List ℕ) (fault : Fault) (records text : 
   pub frames : List Frame
   pub tail : ℕ
   pub received : Reception link bytes fault frames tail
+  pub records_are : records ≡ records_due frames
+  pub text_is : text ≡ lines_due frames
+
+-- some first sets of the bytes, before any fault, give these records and this text
+pub record PartlyDue (link : Link) (bytes : List ℕ) (records text : List ℕ) : Type 0 where
+  pub frames : List Frame
+  pub received : PartlyReceived link bytes frames
   pub records_are : records ≡ records_due frames
   pub text_is : text ≡ lines_due frames

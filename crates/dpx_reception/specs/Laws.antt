@@ -12,7 +12,8 @@ use Rattle.dpx_inversion.specs.Laws.{AreWhole, sent_frames}
 use Rattle.dpx_msa.specs.Reading.{attributes_of}
 use Rattle.dpx_reception.specs.Bytes.{left_over}
 use Rattle.dpx_reception.specs.Reception.{Fault, no_fault, Reception, Locks}
-use Rattle.dpx_reception.specs.Due.{pixel_records, records_due, attributes_line, lines_due, whole_frames, whole_lines, Due}
+use Rattle.dpx_reception.specs.Due.{pixel_records, records_due, attributes_line, lines_due, whole_frames, whole_lines}
+use Rattle.dpx_reception.specs.Due.{Due, PartlyDue}
 
 -- What is received of bytes is one: no other fault, no other frames and no other tail; and the lock is one.
 abbrev pub IsOneReception : Type 0
@@ -40,6 +41,13 @@ abbrev pub DueStays : Type 0
 DueStays =
     (link : Link) (bytes more : List ℕ) (fault other : Fault) (records others text texts : List ℕ)
     → Due link bytes fault records text → Due link (bytes ++ more) other others texts
+    → IsFront records others × IsFront text texts
+
+-- What some first sets of bytes give is due of the bytes.
+abbrev pub PartsAreFronts : Type 0
+PartsAreFronts =
+    (link : Link) (bytes more : List ℕ) (fault : Fault) (records others text texts : List ℕ)
+    → PartlyDue link bytes records text → Due link (bytes ++ more) fault others texts
     → IsFront records others × IsFront text texts
 
 -- what is received of the bytes behind the header of a plan's capture

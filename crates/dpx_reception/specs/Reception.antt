@@ -17,12 +17,17 @@ pub record AreSets (enhanced : Bool) (plain sets : List (List Sym)) : Type 0 whe
   pub there : (s : ℕ) (set : List Sym) → slice_get sets s ≡ Some set → SetOf (sr_group enhanced) plain s set
   pub no_others : (s : ℕ) (set : List Sym) → SetOf (sr_group enhanced) plain s set → slice_get sets s ≡ Some set
 
--- None of the words of the first clocks is bad, and these sets are complete in those clocks.
-pub record Gives (enhanced : Bool) (words : List (List ℕ)) (clocks : ℕ) (sets : List (List Sym)) : Type 0 where
+-- these are the first sets that are complete in these symbols of the lanes
+abbrev pub AreFirstSets : (enhanced : Bool) → (plain sets : List (List Sym)) → Type 0
+AreFirstSets enhanced plain sets =
+    (s : ℕ) (set : List Sym) → slice_get sets s ≡ Some set → SetOf (sr_group enhanced) plain s set
+
+-- None of the words of the first clocks is bad, and those clocks' symbols have these sets.
+pub record Gives (words : List (List ℕ)) (clocks : ℕ) (have : (plain : List (List Sym)) → Type 0) : Type 0 where
   pub no_fault : NoFault (cut clocks words)
   pub plain : List (List Sym)
   pub symbols : Symbols (cut clocks words) plain
-  pub are_sets : AreSets enhanced plain sets
+  pub sets : have plain
 
 -- a fault: a word that is bad, or a set that may not stand where it does
 pub data Fault : Type 0 where
@@ -30,22 +35,17 @@ pub data Fault : Type 0 where
   word_fault : AlignBad → Fault
   set_fault : ParseBad → Fault
 
--- a set may not stand behind those before it, which are accepted
-pub record StopsAt (link : Link) (sets : List (List Sym)) (bad : ParseBad) (before : List (List Sym)) : Type 0 where
-  pub set : List Sym
-  pub after : List (List Sym)
-  pub parts : sets ≡ before ++ set ∷ after
-  pub refuses : Refuses link.enhanced link.lanes before set bad
-
 -- These sets were received before the first fault. Without one they are all sets of all clocks; before a word fault
 -- those that are complete before its clock. A set fault comes first where its set is complete in clocks that have no
 -- bad word.
 abbrev pub ReceivedUpTo : Link → (words : List (List ℕ)) → (all : ℕ) → Fault → (sets : List (List Sym)) → Type 0
-ReceivedUpTo link words all no_fault sets = Gives link.enhanced words all sets
+ReceivedUpTo link words all no_fault sets = Gives words all (λ plain. AreSets link.enhanced plain sets)
 ReceivedUpTo link words all (word_fault bad) sets =
-    IsFirstFault words bad × Gives link.enhanced words (place_of bad).clock sets
-ReceivedUpTo link words all (set_fault bad) before =
-    (clocks : ℕ) × (sets : List (List Sym)) × Gives link.enhanced words clocks sets × StopsAt link sets bad before
+    IsFirstFault words bad × Gives words (place_of bad).clock (λ plain. AreSets link.enhanced plain sets)
+ReceivedUpTo link words all (set_fault bad) sets =
+    (clocks : ℕ) × (set : List Sym)
+    × Gives words clocks (λ plain. AreFirstSets link.enhanced plain (sets ++ set ∷ []))
+    × Refuses link.enhanced link.lanes sets set bad
 
 -- The bytes have this first fault, or none; and these frames are received of the sets before it, and so many sets of an
 -- unfinished line.
@@ -53,6 +53,15 @@ pub record Reception (link : Link) (bytes : List ℕ) (fault : Fault) (frames : 
   pub sets : List (List Sym)
   pub up_to : ReceivedUpTo link (received_words (lanes_count link.lanes) bytes) (clocks_in (lanes_count link.lanes) bytes)
       fault sets
+  pub accepted : Receives link.enhanced (lanes_count link.lanes) sets frames tail
+
+-- These frames are received of some first sets of the bytes, which come before any fault.
+pub record PartlyReceived (link : Link) (bytes : List ℕ) (frames : List Frame) : Type 0 where
+  pub clocks : ℕ
+  pub sets : List (List Sym)
+  pub given : Gives (received_words (lanes_count link.lanes) bytes) clocks
+      (λ plain. AreFirstSets link.enhanced plain sets)
+  pub tail : ℕ
   pub accepted : Receives link.enhanced (lanes_count link.lanes) sets frames tail
 
 -- the lanes lock at this clock, or nowhere

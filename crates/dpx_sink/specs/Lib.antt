@@ -1,0 +1,6 @@
+pub mod Told
+pub mod Writes
+pub mod Line
+pub mod Reader
+pub mod Clocks
+pub mod Receiver
