@@ -1,13 +1,13 @@
 -- The clock at which a set is complete.
 use Rattle.std.proofs.Common.{◌≡◌, ℕ, zero, suc, ◌<◌, ◌≤◌, ◌+◌, ◌-◌, inl, inr, List, [], length, take}
-use Rattle.std.proofs.Common.{refl, sym, ap, subst, ◌∙◌, arith, Some}
+use Rattle.std.proofs.Common.{refl, sym, ap, subst, ◌∙◌, arith}
 use Rattle.std.specs.Prelude.{slice_index_or, slice_get}
 use Rattle.std.proofs.lemmas.Bool.{cases_lt}
 use Rattle.std.proofs.lemmas.List.{ext_get_or, get_or-map, length-map, length-take}
 use Rattle.std.proofs.lemmas.Option.{slice_get_within, same_Some}
 use Rattle.dpx_base.specs.Words.{fill, words_of}
 use Rattle.dpx_base.specs.declared.sym.Sym.{Sym}
-use Rattle.dpx_align.specs.Faults.{FaultAt, Symbols, cut}
+use Rattle.dpx_align.specs.Faults.{Symbols, cut}
 use Rattle.dpx_align.specs.Laws.{SetsAreOne, CompletesOnce, SetsComeFirst}
 use Rattle.dpx_align.specs.Lock.{sr_group, lane_of, FirstFrom, SetOf, CompleteAt}
 use Rattle.dpx_align.proofs.LaneSymbols.{symbols_length}
@@ -39,20 +39,20 @@ later : (group : List Sym) (plain : List (List Sym)) (at n g : ℕ) → n < leng
     → FirstFrom group (lane_of plain n) at g → Latest group plain at n → Latest group plain at (suc n)
 later group plain at n g l f r = elim (cases_lt r.start g) [
   | inl less ↦ record {
-      last = n;
-      within = l;
-      start = g;
-      starts = f;
-      latest = bounds group plain at n g g f (omega arith)
-          (λ lane other k h. omega (arith, less, r.latest lane other k h));
-    }
+    last = n;
+    within = l;
+    start = g;
+    starts = f;
+    latest = bounds group plain at n g g f (omega arith)
+        (λ lane other k h. omega (arith, less, r.latest lane other k h));
+  }
   | inr not_less ↦ record {
-      last = r.last;
-      within = r.within;
-      start = r.start;
-      starts = r.starts;
-      latest = bounds group plain at n g r.start f not_less r.latest;
-    }
+    last = r.last;
+    within = r.within;
+    start = r.start;
+    starts = r.starts;
+    latest = bounds group plain at n g r.start f not_less r.latest;
+  }
 ]
 
 latest_of : (group : List Sym) (plain : List (List Sym)) (at n : ℕ)

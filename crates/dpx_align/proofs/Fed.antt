@@ -1,7 +1,7 @@
 -- An aligner goes on by the rows of the next clocks.
-use Rattle.std.proofs.Common.{◌≡◌, ℕ, zero, suc, ◌<◌, ◌≤◌, ◌+◌, ◌-◌, min, List, [], ◌∷◌, ◌++◌, length, take, map}
+use Rattle.std.proofs.Common.{◌≡◌, ℕ, zero, suc, ◌<◌, ◌≤◌, ◌+◌, ◌-◌, min, List, [], ◌∷◌, length, take, map}
 use Rattle.std.proofs.Common.{replicate}
-use Rattle.std.proofs.Common.{refl, sym, ap, subst, ◌∙◌, arith, length-append, Bool, true, false, Option, Some, None}
+use Rattle.std.proofs.Common.{refl, sym, ap, subst, ◌∙◌, arith, length-append, true, false, Option, Some, None}
 use Rattle.std.proofs.Common.{slice_get}
 use Rattle.std.specs.Option.{is_some}
 use Rattle.std.proofs.lemmas.Bool.{false≢true}
@@ -15,9 +15,9 @@ use Rattle.dpx_lane.specs.Receiving.{HasRead, ReadsRow, good_clocks}
 use Rattle.dpx_lane.specs.Team.{LanesDo, TeamRead, joined}
 use Rattle.dpx_lane.specs.declared.lane_fault.LaneFault.{LaneFault}
 use Rattle.dpx_lane.specs.declared.lane_rx.LaneRx.{LaneRx}
-use Rattle.dpx_align.specs.Aligner.{WasFed, IsFaultOf, IsFirstFault, CountedTo, place_of}
+use Rattle.dpx_align.specs.Aligner.{WasFed, IsFaultOf, CountedTo, place_of}
 use Rattle.dpx_align.specs.Deskew.{HasTaken}
-use Rattle.dpx_align.specs.Faults.{NoFault, Symbols, cut}
+use Rattle.dpx_align.specs.Faults.{Symbols, cut}
 use Rattle.dpx_align.specs.FirstFault.{FirstOf, bad_of}
 use Rattle.dpx_align.specs.Search.{lengthened, decoded}
 use Rattle.dpx_align.specs.declared.align_bad.AlignBad.{AlignBad}

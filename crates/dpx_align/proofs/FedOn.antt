@@ -1,12 +1,12 @@
 -- What an aligner was fed, as clocks are added.
-use Rattle.std.proofs.Common.{◌≡◌, ℕ, ◌<◌, ◌≤◌, ◌+◌, ◌-◌, ◌++◌, List, [], length, take, map, replicate}
-use Rattle.std.proofs.Common.{refl, sym, ap, subst, ◌∙◌, arith, length-append, Some, slice_get}
+use Rattle.std.proofs.Common.{◌≡◌, ℕ, ◌<◌, ◌≤◌, ◌+◌, ◌-◌, ◌++◌, List, [], length, take, map}
+use Rattle.std.proofs.Common.{sym, ap, subst, ◌∙◌, arith, length-append, Some, slice_get}
 use Rattle.std.proofs.lemmas.List.{get_or-map, length-map, take-map}
 use Rattle.dpx_base.specs.Words.{words_of, LaneSymbols}
 use Rattle.dpx_base.specs.declared.sym.Sym.{Sym}
 use Rattle.dpx_lane.proofs.BadWords.{is_reading}
 use Rattle.dpx_lane.specs.Codes.{symbol_of}
-use Rattle.dpx_lane.specs.Receiving.{HasRead, IsReading}
+use Rattle.dpx_lane.specs.Receiving.{HasRead}
 use Rattle.dpx_lane.specs.Team.{TeamRead, joined}
 use Rattle.dpx_lane.specs.declared.lane_fault.LaneFault.{LaneFault}
 use Rattle.dpx_lane.specs.declared.lane_rx.LaneRx.{LaneRx}

@@ -1,5 +1,5 @@
 -- What the first of the lanes' faults says of their words.
-use Rattle.std.proofs.Common.{◌≡◌, ℕ, ◌<◌, ◌≤◌, ◌+◌, ◌++◌, List, [], length, take, inl, inr, refl, sym, ap, subst, ◌∙◌}
+use Rattle.std.proofs.Common.{◌≡◌, ℕ, ◌<◌, ◌≤◌, ◌+◌, List, length, take, inl, inr, refl, sym, ap, subst, ◌∙◌}
 use Rattle.std.proofs.Common.{arith, Bool, true, false, cond, nat_lt, Option, Some, None}
 use Rattle.std.specs.Prelude.{slice_index_or}
 use Rattle.std.proofs.lemmas.Bool.{cases_lt, ltb-true, ltb-false}
@@ -106,7 +106,7 @@ not_sooner words n found first lane l (Some fault) i own is =
       | inr k ↦ k
     ]
 
-no_other : (words : List (List ℕ)) (n : ℕ) → FirstOf words n None → (lane : ℕ) → lane < n
+pub no_other : (words : List (List ℕ)) (n : ℕ) → FirstOf words n None → (lane : ℕ) → lane < n
     → (fault : Option LaneFault) → IsFault (words_of words lane) fault → (own : LaneFault) → fault ≡ Some own → ⊥
 no_other words n first lane l None i own is = cc
 no_other words n first lane l (Some fault) i own is = first lane fault.clock l i.0.bad

@@ -1,10 +1,10 @@
 -- The first word fault is one, and so is its reason.
-use Rattle.std.proofs.Common.{◌≡◌, ℕ, ◌<◌, ◌≤◌, inl, inr, List, length, take, refl, sym, ap, subst, ◌∙◌, arith}
+use Rattle.std.proofs.Common.{◌≡◌, ℕ, inl, inr, List, take, sym, ap, subst, ◌∙◌, arith}
 use Rattle.std.specs.Prelude.{slice_index_or}
 use Rattle.std.proofs.lemmas.Bool.{cases_order}
-use Rattle.dpx_base.specs.Words.{words_of, BadAt}
+use Rattle.dpx_base.specs.Words.{words_of}
 use Rattle.dpx_base.specs.declared.place.Place.{Place}
-use Rattle.dpx_align.specs.Aligner.{place_of, HasReason, IsFirstFault}
+use Rattle.dpx_align.specs.Aligner.{place_of, HasReason}
 use Rattle.dpx_align.specs.Faults.{FaultAt}
 use Rattle.dpx_align.specs.Laws.{FaultsAreOne}
 use Rattle.dpx_align.specs.declared.align_bad.AlignBad.{AlignBad}
@@ -25,12 +25,15 @@ lane_once words c l m a b =
       | inr o ↦ elim o [ inl k ↦ absurd (b.lowest l k a.bad) | inr k ↦ absurd (a.lowest m k b.bad) ]
     ]
 
+abbrev at : (clock lane : ℕ) → Place
+at clock lane = record { clock = clock; lane = lane }
+
 place_once : (words : List (List ℕ)) (p q : Place) → FaultAt words p.clock p.lane → FaultAt words q.clock q.lane → p ≡ q
 place_once words p q a b =
     let c : p.clock ≡ q.clock = clock_once words p.clock q.clock p.lane q.lane a b in
     let l : p.lane ≡ q.lane =
     lane_once words q.clock p.lane q.lane (subst (λ (n : ℕ). FaultAt words n p.lane) c a) b in
-    cc
+    ap (λ n. at n p.lane) c ∙ ap (λ n. at q.clock n) l
 
 -- of one word, behind the same words, one reason holds
 reason_once : (before : List ℕ) (word : ℕ) (one other : AlignBad) → place_of one ≡ place_of other

@@ -1,11 +1,11 @@
 -- A set stays, as clocks are added.
-use Rattle.std.proofs.Common.{◌≡◌, ℕ, ◌<◌, ◌+◌, ◌++◌, List, length, sym, subst, ◌∙◌, arith, Some}
-use Rattle.std.specs.Prelude.{slice_index_or, slice_get}
+use Rattle.std.proofs.Common.{ℕ, ◌<◌, ◌+◌, ◌++◌, List, length, sym, subst, ◌∙◌, arith}
+use Rattle.std.specs.Prelude.{slice_index_or}
 use Rattle.std.proofs.lemmas.Option.{slice_get_within}
 use Rattle.circular_buffer.proofs.Places.{slice_get-append_left}
 use Rattle.dpx_base.specs.declared.sym.Sym.{Sym}
 use Rattle.dpx_align.specs.Laws.{SetsStay}
-use Rattle.dpx_align.specs.Lock.{sr_group, lane_of, FirstFrom, SymbolOf, SetOf}
+use Rattle.dpx_align.specs.Lock.{sr_group, lane_of, SymbolOf}
 use Rattle.dpx_align.proofs.Answered.{some_group}
 use Rattle.dpx_align.proofs.LockStays.{lane_of-lengthened, length-lengthened, lock_on}
 use Rattle.dpx_align.proofs.Steps.{first_on}

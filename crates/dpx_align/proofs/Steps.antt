@@ -1,10 +1,10 @@
 -- What each call does to what the machine stands for.
-use Rattle.std.proofs.Common.{◌≡◌, ℕ, suc, ◌<◌, ◌≤◌, ◌+◌, ◌-◌, inl, inr, ⊎_elim, false, List, [], ◌∷◌, ◌++◌, length}
+use Rattle.std.proofs.Common.{◌≡◌, ℕ, suc, ◌<◌, ◌≤◌, ◌+◌, ◌-◌, ⊎_elim, false, List, [], ◌∷◌, ◌++◌, length}
 use Rattle.std.proofs.Common.{drop, map, refl, sym, ap, subst, ◌∙◌, arith, Some, None, length-drop, length-append}
 use Rattle.std.specs.Prelude.{slice_index_or}
 use Rattle.std.proofs.lemmas.List.{drop-drop, length-map, drop-append-le, get_or-drop, get_or-map}
 use Rattle.std.proofs.lemmas.Option.{slice_get-get_or, slice_get_within}
-use Rattle.std.proofs.lemmas.Bool.{cases_lt, cases_order}
+use Rattle.std.proofs.lemmas.Bool.{cases_lt}
 use Rattle.dpx_base.specs.Words.{fill}
 use Rattle.dpx_base.specs.declared.sym.Sym.{Sym}
 use Rattle.dpx_align.proofs.LockStays.{within, on, back, lane_of-lengthened, length-lengthened, none_on, lock_on}
@@ -12,7 +12,7 @@ use Rattle.dpx_align.proofs.Meeting.{start_first}
 use Rattle.dpx_align.proofs.Once.{lock_once, first_once}
 use Rattle.dpx_align.proofs.Scanned.{scan_none}
 use Rattle.dpx_align.proofs.Seeking.{lane_of-map, map_same, map_twice, none_in}
-use Rattle.dpx_align.specs.Lock.{Near, Meets, IsLock, FirstFrom, SetOf, lane_of}
+use Rattle.dpx_align.specs.Lock.{Near, Meets, FirstFrom, SetOf, lane_of}
 use Rattle.dpx_align.specs.Search.{scan, meets, start, lengthened, head, Seeking, Locked}
 
 -- no lane meets where the search found none

@@ -1,5 +1,5 @@
 -- What the deskew of lanes stands for, and hands out.
-use Rattle.std.specs.Prelude.{◌≡◌, ℕ, ◌<◌, ◌≤◌, ◌+◌, List, length, Option, Some, None}
+use Rattle.std.specs.Prelude.{ℕ, ◌<◌, ◌≤◌, ◌+◌, List, length, Option, Some, None}
 use Rattle.dpx_base.specs.declared.sym.Sym.{Sym}
 use Rattle.dpx_align.specs.Lock.{sr_group, lane_of, SetOf}
 use Rattle.dpx_align.specs.Search.{Holds}

@@ -3,7 +3,7 @@ use Rattle.std.specs.Prelude.{◌≡◌, ℕ, ◌<◌, ◌≤◌, Bool, List, le
 use Rattle.dpx_base.specs.Words.{SentWords, Sendable}
 use Rattle.dpx_base.specs.declared.sym.Sym.{Sym}
 use Rattle.dpx_align.specs.Aligner.{IsFirstFault}
-use Rattle.dpx_align.specs.Faults.{Counted, FaultAt, Symbols, cut}
+use Rattle.dpx_align.specs.Faults.{FaultAt, Symbols, cut}
 use Rattle.dpx_align.specs.Lock.{sr_group, SetOf, CompleteAt}
 use Rattle.dpx_align.specs.declared.align_bad.AlignBad.{AlignBad}
 use Rattle.dpx_align.specs.Search.{lengthened}

@@ -1,14 +1,10 @@
 -- What a reader of bytes stands for, in whatever pieces they came.
 use Rattle.std.specs.Prelude.{ℕ, ◌≡◌, ◌<◌, ◌≤◌, ◌*◌, ◌+◌, ◌^◌, List, ◌++◌, length}
-use Rattle.dpx_align.specs.Aligner.{CanFeed, clocks_fed, lanes_of, is_enhanced}
-use Rattle.dpx_align.specs.declared.align_bad.AlignBad.{AlignBad}
+use Rattle.dpx_align.specs.Aligner.{CanFeed, clocks_fed}
 use Rattle.dpx_base.specs.Lanes.{lanes_count}
 use Rattle.dpx_base.specs.declared.link.Link.{Link}
-use Rattle.dpx_parse.specs.Parser.{enhanced_of}
-use Rattle.dpx_parse.specs.Parser as parser
-use Rattle.dpx_parse.specs.declared.bad.ParseBad.{ParseBad}
 use Rattle.dpx_reception.specs.Bytes.{received_words}
-use Rattle.dpx_sink.specs.Reader.{Framing, HasRead, HasReadAll, HasBadWord, HasBadSet, HasSome}
+use Rattle.dpx_sink.specs.Reader.{Framing, HasRead, HasReadAll, Agrees}
 use Rattle.dpx_sink.specs.declared.clocks.Clocks.{Clocks}
 
 -- whole clocks, and what is left of an unfinished one
@@ -40,11 +36,7 @@ pub record InFront (link : Link) (P : List (List ℕ) → Type 0) (bytes : List 
 
 -- The parts have one link, fewer bytes than a clock's are left, and the aligner has room for a batch.
 pub record IsReady (c : Clocks) : Type 0 where
-  pub aligner : lanes_of c.reader.aligner ≡ c.link.lanes
-  pub aligner_enhanced : is_enhanced c.reader.aligner ≡ c.link.enhanced
-  pub parser : parser.lanes_of c.reader.parser ≡ c.link.lanes
-  pub parser_enhanced : enhanced_of c.reader.parser ≡ c.link.enhanced
-  pub line : c.reader.lines.lanes ≡ c.link.lanes
+  pub agrees : Agrees (framing_of c.link) c.reader
   pub rows : c.rows.lanes ≡ c.link.lanes
   pub short : length c.left.items < 2 * lanes_count c.link.lanes
   pub fed : clocks_fed c.reader.aligner * (2 * lanes_count c.link.lanes) + length c.left.items ≡ c.fed

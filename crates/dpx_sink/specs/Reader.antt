@@ -1,6 +1,7 @@
 -- What a reader of words stands for, and how its reading ends.
 use Rattle.std.specs.Prelude.{ℕ, ◌≡◌, List, [], ◌∷◌, ◌++◌, length, Bool}
-use Rattle.dpx_align.specs.Aligner.{WasFed, IsFirstFault, sets_given}
+use Rattle.dpx_align.specs.Aligner.{WasFed, IsFirstFault, sets_given, is_enhanced}
+use Rattle.dpx_align.specs.Aligner.{lanes_of as aligner_lanes}
 use Rattle.dpx_align.specs.Faults.{Counted, NoFault}
 use Rattle.dpx_align.specs.declared.align_bad.AlignBad.{AlignBad}
 use Rattle.dpx_align.specs.declared.aligner.Aligner.{Aligner}
@@ -8,7 +9,7 @@ use Rattle.dpx_base.specs.Lanes.{lanes_count}
 use Rattle.dpx_base.specs.declared.lanes.Lanes.{Lanes}
 use Rattle.dpx_base.specs.declared.sym.Sym.{Sym}
 use Rattle.dpx_parse.specs.FirstFault.{HasNoFault}
-use Rattle.dpx_parse.specs.Parser.{StandsFor, Refuses}
+use Rattle.dpx_parse.specs.Parser.{StandsFor, Refuses, lanes_of, enhanced_of}
 use Rattle.dpx_parse.specs.Received.{AreEvents}
 use Rattle.dpx_parse.specs.declared.bad.ParseBad.{ParseBad}
 use Rattle.dpx_parse.specs.declared.event.Event.{Event}
@@ -44,6 +45,25 @@ pub record HasGiven (f : Framing) (a : Aligner) (words : List (List ℕ)) (sets 
 pub record HasRead (f : Framing) (r : Reader) (words : List (List ℕ)) (records text : List ℕ) : Type 0 where
   pub sets : List (List Sym)
   pub given : HasGiven f r.aligner words sets
+  pub parsed : StandsFor r.parser sets
+  pub under : Under
+  pub tally : Tally
+  pub holds : Holds r.lines under tally
+  pub tell : Tell f sets records text under tally
+
+-- its parts have this framing and these lanes
+pub record Agrees (f : Framing) (r : Reader) : Type 0 where
+  pub aligner : aligner_lanes r.aligner ≡ f.lanes
+  pub aligner_enhanced : is_enhanced r.aligner ≡ f.enhanced
+  pub parser : lanes_of r.parser ≡ f.lanes
+  pub parser_enhanced : enhanced_of r.parser ≡ f.enhanced
+  pub lines : r.lines.lanes ≡ f.lanes
+
+-- The aligner gave one set more, which the others have not read.
+pub record IsNext (f : Framing) (r : Reader) (words : List (List ℕ)) (set : List Sym) (records text : List ℕ)
+    : Type 0 where
+  pub sets : List (List Sym)
+  pub given : HasGiven f r.aligner words (sets ++ set ∷ [])
   pub parsed : StandsFor r.parser sets
   pub under : Under
   pub tally : Tally

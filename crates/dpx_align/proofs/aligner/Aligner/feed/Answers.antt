@@ -1,7 +1,7 @@
-use Rattle.std.proofs.Common.{sym, ap, ◌∙◌, arith, refl, map, take, List, Some}
+use Rattle.std.proofs.Common.{sym, ap, ◌∙◌, arith, refl, map, take, List, [], Some}
 use Rattle.dpx_base.specs.Lanes.{lanes_count}
 use Rattle.dpx_base.specs.declared.sym.Sym.{Sym}
-use Rattle.dpx_align.specs.Search.{lengthened, decoded}
+use Rattle.dpx_align.specs.Search.{decoded}
 use Rattle.dpx_align.proofs.Fed.{none_of, fed_stays, fed_none, fed_some}
 use Rattle.dpx_align.proofs.Teams.{take_rows, at_most_on}
 use Rattle.dpx_align.proofs.aligner.Aligner.feed.Goals as goal

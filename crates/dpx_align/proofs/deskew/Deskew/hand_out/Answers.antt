@@ -1,4 +1,4 @@
-use Rattle.std.proofs.Common.{◌<◌, ◌≤◌, ◌+◌, List, [], length, slice_index_or, arith, sym, subst, refl}
+use Rattle.std.proofs.Common.{◌<◌, ◌≤◌, ◌+◌, List, [], length, slice_index_or, arith, sym, subst}
 use Rattle.std.proofs.lemmas.List.{length-map}
 use Rattle.std.proofs.lemmas.Bool.{both_ways}
 use Rattle.std.proofs.Common.{drop}
