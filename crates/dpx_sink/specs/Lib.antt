@@ -4,3 +4,4 @@ pub mod Line
 pub mod Reader
 pub mod Clocks
 pub mod Receiver
+pub mod Laws

@@ -21,7 +21,10 @@ link_of r = r.clocks.link
 abbrev pub bytes_fed : Receiver → ℕ
 bytes_fed r = r.clocks.fed
 
--- what it has refused for
+-- it has refused nothing; or what it has refused for
+abbrev pub IsOpen : Receiver → Type 0
+IsOpen r = r.refused ≡ None
+
 abbrev pub HasRefused : Receiver → RecvEnd → Type 0
 HasRefused r end = r.refused ≡ Some end
 
@@ -29,7 +32,7 @@ HasRefused r end = r.refused ≡ Some end
 -- this text are all that is due of them.
 pub record StandsFor (r : Receiver) (bytes records text : List ℕ) : Type 0 where
   pub taken : HasTaken r.clocks bytes records text
-  pub refused : r.refused ≡ None
+  pub open_still : IsOpen r
   pub fed : bytes_fed r ≡ length bytes
   pub due : Due (link_of r) bytes no_fault records text
 

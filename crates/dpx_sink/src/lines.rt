@@ -1,9 +1,10 @@
 ghost use Rattle.std.specs.Prelude.{◌≡◌, ◌≤◌, ℕ, List, [], OnOk, OnErr, IfOk, length, None, false};
 ghost use Rattle.std.specs.Io.KnownBytes.{Appends};
+ghost use Rattle.dpx_base.specs.Faults.{HasCause};
 ghost use Rattle.dpx_base.specs.Lanes.{lanes_count};
 ghost use Rattle.dpx_parse.specs.Stands.{number_of};
 ghost use Rattle.dpx_parse.specs.declared.event.Event.{Event};
-ghost use Rattle.dpx_sink.specs.Line.{Holds, line_room, HaveSizes};
+ghost use Rattle.dpx_sink.specs.Line.{Holds, Fits, line_room};
 ghost use Rattle.dpx_sink.specs.Told.{Under, none, Tally, no_tally, after, tallied, records_of, text_of, frames_in};
 ghost use Rattle.dpx_sink.specs.Writes.{AppendsFront, Calm, OneRose, sinks};
 
@@ -68,7 +69,7 @@ impl Lines {
     }
 
     fn take_attributes(&mut self, attributes: &Attributes)
-        ensures state { (under : Under) (t : Tally) → Holds self.old under t
+        ensures state { (under : Under) (t : Tally) → attributes.now.width ≤ 8192 → Holds self.old under t
             → Holds self.new (after under (Event.Attributes attributes.now))
             (tallied under t (Event.Attributes attributes.now)) }
         ensures lanes { self.new.lanes ≡ self.old.lanes }
@@ -110,6 +111,7 @@ impl Lines {
         ensures front { OnErr result ((under : Under) (t : Tally) → Holds self.old under t
             → AppendsFront (O.seen pix.old).taken (O.seen pix.new).taken
             (records_of (lanes_count self.old.lanes) under Event.LineEnd)) }
+        ensures cause { HasCause (O.seen pix.old).faults (O.seen pix.new).faults result }
         ensures lanes { self.new.lanes ≡ self.old.lanes }
     {
         let Some(attributes) = self.attributes else {
@@ -134,7 +136,7 @@ impl Lines {
 
     /// Takes the next event: a line's pixels are written to `pix` when it ends, and attributes to `log`.
     pub fn hear<O: Sink>(&mut self, event: Event, pix: &mut O, log: &mut O) -> Result<(), Failed>
-        ensures state { (under : Under) (t : Tally) → Holds self.old under t
+        ensures state { (under : Under) (t : Tally) → Fits event → Holds self.old under t
             → Holds self.new (after under event) (tallied under t event) }
         ensures records { OnOk result ((under : Under) (t : Tally) → Holds self.old under t
             → Appends (O.seen pix.old).taken (O.seen pix.new).taken

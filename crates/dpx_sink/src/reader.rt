@@ -8,10 +8,11 @@ ghost use Rattle.dpx_lane.specs.Team.{joined};
 ghost use Rattle.dpx_parse.specs.Parser.{enhanced_of};
 ghost use Rattle.dpx_parse.specs.Parser as parser;
 ghost use Rattle.dpx_sink.specs.Reader.{Framing, HasRead, IsNext, HasReadAll, HasBadWord, HasBadSet, HasSome, Agrees};
+ghost use Rattle.dpx_sink.specs.Reader.{ReadEnds};
 ghost use Rattle.dpx_sink.specs.Writes.{Went, Calm, OneRose, sinks};
 
-use crate::RecvEnd;
 use crate::lines::Lines;
+use crate::{FinishEnd, Received, RecvEnd};
 use dpx_align::{Aligner, Step};
 use dpx_base::{Gate, LaneSet, Link, Memory, Sink, Workers};
 use dpx_lane::LaneRows;
@@ -157,5 +158,21 @@ impl Reader {
     {
         self.aligner.feed(rt, rows, workers, gate);
         self.pump(pix, log)
+    }
+
+    /// The end, where nothing was refused.
+    pub fn finish(&self) -> Result<Received, FinishEnd>
+        ensures { (f : Framing) (words : List (List ℕ)) (p l : List ℕ) → Agrees f self.now
+            → HasRead f self.now words p l → HasReadAll f words p l
+            → ReadEnds f words (clocks_fed self.now.aligner) result }
+    {
+        match self.aligner.finish() {
+            Ok(()) => Ok(Received {
+                frames: self.lines.frames(),
+                lines: self.lines.lines(),
+                tail_clocks: self.parser.tail(),
+            }),
+            Err(end) => Err(FinishEnd::NoLock { clocks: end.clocks }),
+        }
     }
 }
