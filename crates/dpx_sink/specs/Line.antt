@@ -1,17 +1,14 @@
 -- What the line under way stands for.
-use Rattle.std.specs.Prelude.{ℕ, ◌≡◌, ◌<◌, ◌≤◌, ◌*◌, ◌+◌, true, false, List, length, min, slice_index, slice_index_or}
+use Rattle.std.specs.Prelude.{ℕ, ◌≡◌, ◌<◌, ◌≤◌, ◌*◌, ◌+◌, true, false, List, [], length, min, slice_index, slice_index_or}
 use Rattle.std.specs.Prelude.{Some, None}
 use Rattle.dpx_base.specs.Lanes.{lanes_count}
 use Rattle.dpx_parse.specs.declared.event.Event.{Event}
 use Rattle.dpx_parse.specs.declared.event.Event.TheVariants.{Attributes}
 use Rattle.dpx_parse.specs.Stands.{number_of}
+use Rattle.dpx_sink.specs.Room.{line_room}
 use Rattle.dpx_sink.specs.Told.{Under, none, idle, live, Tally}
 use Rattle.dpx_sink.specs.declared.line_store.LineStore.{LineStore}
 use Rattle.dpx_sink.specs.declared.lines.Lines.{Lines}
-
--- the most bytes of a line on all lanes: 8,192 pixels of 48 bits
-abbrev pub line_room : ℕ
-line_room = 49152
 
 -- The store has the rows of a line: the bytes that a line with these attributes has room for.
 pub record StoreStands (s : LineStore) (lanes : ℕ) (rows : List (List ℕ)) : Type 0 where

@@ -22,6 +22,7 @@ fn push(line: &mut LineText, text: &[u8])
 }
 
 /// A word, and a number behind it.
+#[tactic(auto, using(crate::proofs::Texts::short))]
 fn push_number(line: &mut LineText, word: &str, number: u32)
     requires { array_vec_len line.old + length word.now + 10 ≤ 256 }
     ensures items { line.new.items ≡ line.old.items ++ (word.now ++ decimal number) }

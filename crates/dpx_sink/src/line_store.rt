@@ -1,6 +1,5 @@
 ghost use Rattle.std.specs.Prelude.{◌≡◌, ◌<◌, ◌≤◌, ◌+◌, ◌*◌, ℕ, List, [], ◌∷◌, ◌++◌, length, replicate, slice_index, IfOk};
-ghost use Rattle.dpx_base.specs.Lanes.{lanes_count};
-ghost use Rattle.dpx_sink.specs.Line.{StoreStands, line_room};
+ghost use Rattle.dpx_sink.specs.Room.{line_room};
 
 use dpx_base::{LaneBytes, Lanes, Memory};
 use std::alloc::Global;
@@ -25,6 +24,10 @@ fn byte_of(row: &LaneBytes, lane: usize) -> u8
 }
 
 impl LineStore {
+    ghost use Rattle.std.specs.Prelude.{slice_index_or};
+    ghost use Rattle.dpx_base.specs.Lanes.{lanes_count};
+    ghost use Rattle.dpx_sink.specs.Line.{StoreStands};
+
     /// Takes its memory, and has no row.
     pub fn new(alloc: Global) -> Result<LineStore, Memory>
         ensures { IfOk result (λ store. (lanes : ℕ) → StoreStands store lanes []) }
@@ -61,7 +64,7 @@ impl LineStore {
         requires { lane < lanes_count lanes }
         ensures { (rows : List (List ℕ)) → StoreStands self.now (lanes_count lanes) rows
             → j * lanes_count lanes + lane < line_room
-            → result ≡ slice_index (Rattle.std.specs.Prelude.slice_index_or rows j []) lane }
+            → result ≡ slice_index (slice_index_or rows j []) lane }
     {
         let width = usize::from(lanes.count());
         if j < self.count && j * width + lane < LINE_ROOM {

@@ -4,7 +4,7 @@ ghost use Rattle.dpx_base.specs.Faults.{HasCause};
 ghost use Rattle.dpx_base.specs.Lanes.{lanes_count};
 ghost use Rattle.dpx_parse.specs.Stands.{number_of};
 ghost use Rattle.dpx_parse.specs.declared.event.Event.{Event};
-ghost use Rattle.dpx_sink.specs.Line.{Holds, Fits, line_room};
+ghost use Rattle.dpx_sink.specs.Room.{line_room};
 ghost use Rattle.dpx_sink.specs.Told.{Under, none, Tally, no_tally, after, tallied, records_of, text_of, frames_in};
 ghost use Rattle.dpx_sink.specs.Writes.{AppendsFront, Calm, OneRose, sinks};
 
@@ -32,6 +32,8 @@ pub(crate) struct Lines {
 }
 
 impl Lines {
+    ghost use Rattle.dpx_sink.specs.Line.{Holds, Fits};
+
     /// Takes all its memory; no attributes are in force.
     pub fn new(alloc: Global, lanes: Lanes) -> Result<Lines, Memory>
         ensures nothing { IfOk result (λ lines. Holds lines none no_tally) }

@@ -3,7 +3,8 @@ ghost use Rattle.dpx_base.specs.Lanes.{lanes_count};
 ghost use Rattle.dpx_base.specs.Mode.{depth_bits};
 ghost use Rattle.dpx_grammar.specs.Accepted.{pixels_in_rows};
 ghost use Rattle.dpx_reception.specs.Due.{pixel_records};
-ghost use Rattle.dpx_sink.specs.Line.{StoreStands, line_room};
+ghost use Rattle.dpx_sink.specs.Line.{StoreStands};
+ghost use Rattle.dpx_sink.specs.Room.{line_room};
 
 use crate::line_store::LineStore;
 use dpx_base::{Depth, Lanes, write_pixel};
@@ -46,7 +47,7 @@ fn unpack_lanes<const C: usize>(
     requires width { width ≤ 8192 }
     requires room { length records.old ≡ line_room }
     ensures room { length records.new ≡ line_room }
-    ensures { (rows : List (List ℕ)) → StoreStands store.now (lanes_count lanes) rows
+    ensures records { (rows : List (List ℕ)) → StoreStands store.now (lanes_count lanes) rows
         → take (6 * width) records.new ≡ pixel_records (pixels_in_rows C (lanes_count lanes) width rows) }
 {
     for lane in 0..usize::from(lanes.count()) {
