@@ -2,6 +2,7 @@
 use Rattle.std.proofs.Common.{◌≡◌, ◌==◌, ℕ, zero, suc, ◌+◌, ◌*◌, Bool, true, List, [], ◌∷◌, ◌++◌, length, map, replicate}
 use Rattle.std.proofs.Common.{refl, sym, ap, ◌∙◌, arith, cond}
 use Rattle.std.specs.List.{range_with_len, flat_map, filter, sum_by}
+use Rattle.std.proofs.lemmas.Bool.{eq-eqb}
 use Rattle.std.proofs.lemmas.Grind.{flat_map-append}
 use Rattle.std.proofs.lemmas.List.FromFn.{length-map-range_with_len}
 use Rattle.std.proofs.lemmas.List.Sums.{sum_by-cons}
@@ -50,7 +51,7 @@ all_whole f s (suc n) h =
 
 same_sum : (f : ℕ → Frame) (s n height : ℕ) → ((k : ℕ) → length (f k).lines ≡ height)
     → sum_by (λ frame. length frame.lines) (map f (range_with_len s n)) ≡ n * height
-same_sum f s zero height h = refl
+same_sum f s zero height h = omega arith
 same_sum f s (suc n) height h =
     omega (
       arith,
@@ -70,8 +71,7 @@ frame_lines p pixels f =
     length-map-range_with_len (λ y. row_of_pixels p pixels (f * p.mode.height + y)) 0 p.mode.height
 
 same_number : (n : ℕ) → (n == n) ≡ true
-same_number zero = refl
-same_number (suc n) = same_number n
+same_number n = eq-eqb n n refl
 
 pub sent_text : (p : PlanFacts) (pixels : List Pixel) → lines_due (sent_frames p pixels)
     ≡ flat_map (λ line. line) (replicate p.frames (attributes_line (attributes_of p.mode p.link)))
