@@ -1,4 +1,7 @@
+pub mod DueStays
 pub mod FaultsStay
+pub mod FramesGo
+pub mod FramesStay
 pub mod Grown
 pub mod OneReception
 pub mod SentCaptures

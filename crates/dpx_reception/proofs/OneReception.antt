@@ -96,7 +96,7 @@ set_on enhanced words n c front plain s set l h k o =
     (sets_stay enhanced first rest s set
     (subst (λ (x : List (List Sym)). SetOf (sr_group enhanced) x s set) e o))
 
-first_on : (enhanced : Bool) (words : List (List ℕ)) (n c : ℕ) (front plain sets : List (List Sym)) → n ≤ c
+pub first_on : (enhanced : Bool) (words : List (List ℕ)) (n c : ℕ) (front plain sets : List (List Sym)) → n ≤ c
     → Symbols (cut n words) front → Symbols (cut c words) plain → AreFirstSets enhanced front sets
     → AreFirstSets enhanced plain sets
 first_on enhanced words n c front plain sets l h k a s set e =
@@ -104,7 +104,7 @@ first_on enhanced words n c front plain sets l h k a s set e =
 
 -- ---- lists that go on as others
 
-same_front : (xs ys : List (List Sym))
+pub same_front : (xs ys : List (List Sym))
     → ((s : ℕ) (x : List Sym) → slice_get xs s ≡ Some x → slice_get ys s ≡ Some x)
     → (rest : List (List Sym)) × (ys ≡ xs ++ rest)
 same_front [] ys h = (ys, refl)
@@ -116,10 +116,10 @@ same_front (x ∷ xs) (y ∷ ys) h =
     let f : y ≡ x = same_Some y x (h 0 x refl) in
     (r.0, ap (λ z. z ∷ ys) f ∙ ap (λ zs. x ∷ zs) r.1)
 
-abbrev GoesOn : (xs ys : List (List Sym)) → Type 0
+abbrev pub GoesOn : (xs ys : List (List Sym)) → Type 0
 GoesOn xs ys = (rest : List (List Sym)) × (ys ≡ xs ++ rest)
 
-either_goes_on : (xs ys : List (List Sym))
+pub either_goes_on : (xs ys : List (List Sym))
     → ((s : ℕ) (x y : List Sym) → slice_get xs s ≡ Some x → slice_get ys s ≡ Some y → x ≡ y)
     → GoesOn xs ys ⊎ GoesOn ys xs
 either_goes_on [] ys h = inl (ys, refl)
@@ -132,7 +132,7 @@ either_goes_on (x ∷ xs) (y ∷ ys) h =
     ]
 
 -- what goes on as all but the last is those, or they go on as it
-all_or_less : (u ys : List (List Sym)) (b : List Sym) → GoesOn u (ys ++ b ∷ []) → (ys ++ b ∷ [] ≡ u) ⊎ GoesOn u ys
+pub all_or_less : (u ys : List (List Sym)) (b : List Sym) → GoesOn u (ys ++ b ∷ []) → (ys ++ b ∷ [] ≡ u) ⊎ GoesOn u ys
 all_or_less u ys b (rest, e) =
     let v = ys ++ b ∷ [] in
     let long = length-append ys (b ∷ []) in
@@ -159,7 +159,7 @@ last_once (x ∷ xs) (y ∷ ys) a b e =
 
 -- ---- faults
 
-accepted_front : (link : Link) (u all : List (List Sym)) → GoesOn u all
+pub accepted_front : (link : Link) (u all : List (List Sym)) → GoesOn u all
     → IsAccepted link.enhanced (lanes_count link.lanes) all → IsAccepted link.enhanced (lanes_count link.lanes) u
 accepted_front link u all (rest, e) h =
     fronts_are_accepted link.enhanced link.lanes u rest
@@ -177,7 +177,7 @@ none_refused link words n c all sets set bad l g accepted k r =
     r.fault.fault (accepted_front link (sets ++ set ∷ []) all on accepted)
 
 -- the first clocks without a bad word end before the first one
-clocks_before : (words : List (List ℕ)) (bad : AlignBad) (c : ℕ) → IsFirstWordFault words bad
+pub clocks_before : (words : List (List ℕ)) (bad : AlignBad) (c : ℕ) → IsFirstWordFault words bad
     → NoFault (cut c words) → c ≤ (place_of bad).clock
 clocks_before words bad c f none =
     let clock = (place_of bad).clock in
@@ -195,14 +195,14 @@ clocks_before words bad c f none =
       | inr l ↦ l
     ]
 
-abbrev Long : List (List ℕ) → ℕ → Type 0
+abbrev pub Long : List (List ℕ) → ℕ → Type 0
 Long words n = (lane : ℕ) → lane < length words → length (words_of words lane) ≡ n
 
 whole : (words : List (List ℕ)) (n c : ℕ) → Long words n → n ≤ c → cut c words ≡ words
 whole words n c long l = cut_all c words (λ lane k. omega (arith, l, long lane k))
 
 -- clocks past the last one give what all give
-within_all : (words : List (List ℕ)) (n c : ℕ) (have : (plain : List (List Sym)) → Type 0) → Long words n
+pub within_all : (words : List (List ℕ)) (n c : ℕ) (have : (plain : List (List Sym)) → Type 0) → Long words n
     → Gives words c have → (fewer : ℕ) × (fewer ≤ n) × Gives words fewer have
 within_all words n c have long g =
     elim (cases_lt n c) [
@@ -329,7 +329,7 @@ up_to_once link words n (set_fault bad) (set_fault other) xs ys long (c, a, g, r
       | inr l ↦ swapped (set_fault other) (set_fault bad) ys xs (refused_once link words d c ys xs b a other bad l k g s r)
     ]
 
-received_even : (lanes : ℕ) (bytes : List ℕ) → Long (received_words lanes bytes) (clocks_in lanes bytes)
+pub received_even : (lanes : ℕ) (bytes : List ℕ) → Long (received_words lanes bytes) (clocks_in lanes bytes)
 received_even lanes bytes lane l = received_long lanes bytes lane (omega (arith, l, received_number lanes bytes))
 
 pub one_reception : IsOneReception
