@@ -1,5 +1,6 @@
 -- What is due stays, as bytes follow.
-use Rattle.std.proofs.Common.{◌≡◌, ℕ, zero, suc, ◌<◌, ◌≤◌, inl, inr, Bool, List, [], ◌∷◌, ◌++◌, Some, refl, sym, ap, subst, ◌∙◌, arith}
+use Rattle.std.proofs.Common.{◌≡◌, ℕ, zero, suc, ◌≤◌, inl, inr, Bool, List, [], ◌∷◌, ◌++◌, Some, refl, sym, ap, subst}
+use Rattle.std.proofs.Common.{◌∙◌, arith}
 use Rattle.std.proofs.Common.{append_assoc, append-nil}
 use Rattle.std.specs.Prelude.{slice_get}
 use Rattle.std.specs.List.{flat_map}
@@ -13,12 +14,11 @@ use Rattle.dpx_align.specs.Aligner.{place_of}
 use Rattle.dpx_align.specs.Lock.{sr_group}
 use Rattle.dpx_align.proofs.Completing.{set_once}
 use Rattle.dpx_grammar.specs.Accepted.{Frame, Receives, IsAccepted}
-use Rattle.dpx_msa.specs.declared.attributes.Attributes.{Attributes}
 use Rattle.dpx_reception.specs.Bytes.{clocks_in, received_words}
 use Rattle.dpx_reception.specs.Due.{pixel_records, records_due, attributes_line, lines_due, Due, PartlyDue}
 use Rattle.dpx_reception.specs.Laws.{IsFront, DueStays, PartsAreFronts}
 use Rattle.dpx_reception.specs.Reception.{AreSets, AreFirstSets, Gives, Fault, no_fault, word_fault, set_fault}
-use Rattle.dpx_reception.specs.Reception.{ReceivedUpTo, Reception, PartlyReceived}
+use Rattle.dpx_reception.specs.Reception.{ReceivedUpTo}
 use Rattle.dpx_reception.proofs.FaultsStay.{gives_on}
 use Rattle.dpx_reception.proofs.FramesGo.{AreFront}
 use Rattle.dpx_reception.proofs.FramesStay.{frames_stay}
@@ -41,7 +41,8 @@ either : (link : Link) (words : List (List ℕ)) (c d : ℕ) (u v : List (List S
     → (u_on : GoesOn u v → ⊥) → GoesOn v u
 either link words c d u v l g k none =
     let first = first_on link.enhanced words c d g.plain k.plain u l g.symbols k.symbols g.sets in
-    elim (either_goes_on u v (λ s x y e f. set_once (sr_group link.enhanced) k.plain s x y (first s x e) (k.sets s y f))) [
+    elim (either_goes_on u v
+    (λ s x y e f. set_once (sr_group link.enhanced) k.plain s x y (first s x e) (k.sets s y f))) [
       | inl on ↦ absurd (none on)
       | inr on ↦ on
     ]
@@ -53,7 +54,8 @@ either_way : (link : Link) (words : List (List ℕ)) (c d : ℕ) (u v : List (Li
 either_way link words c d u v g k none =
     elim (cases_lt c d) [
       | inl l ↦
-          let first = first_on link.enhanced words c d g.plain k.plain u (omega (arith, l)) g.symbols k.symbols g.sets in
+          let first =
+          first_on link.enhanced words c d g.plain k.plain u (omega (arith, l)) g.symbols k.symbols g.sets in
           elim (either_goes_on u v
           (λ s x y e f. set_once (sr_group link.enhanced) k.plain s x y (first s x e) (k.sets s y f))) [
             | inl on ↦ on
@@ -133,7 +135,8 @@ parts_are_fronts link bytes more fault records others text texts a b =
     let front = frames_stay link.enhanced link.lanes part.sets on.0 a.frames b.frames part.tail b.tail part.accepted
     longer in (
       subst (λ (x : List ℕ). IsFront x others) (sym a.records_are)
-          (subst (λ (x : List ℕ). IsFront (records_due a.frames) x) (sym b.records_are) (records_on a.frames b.frames front)),
+          (subst (λ (x : List ℕ). IsFront (records_due a.frames) x) (sym b.records_are)
+          (records_on a.frames b.frames front)),
       subst (λ (x : List ℕ). IsFront x texts) (sym a.text_is)
           (subst (λ (x : List ℕ). IsFront (lines_due a.frames) x) (sym b.text_is) (text_on a.frames b.frames front)),
     )

@@ -1,5 +1,5 @@
 -- Of a front of the parts no attributes and no line is taken back.
-use Rattle.std.proofs.Common.{◌≡◌, ℕ, Bool, true, false, List, [], ◌∷◌, ◌++◌, map, refl, sym, ap, subst, ◌∙◌}
+use Rattle.std.proofs.Common.{◌≡◌, ℕ, Bool, true, false, List, [], ◌∷◌, ◌++◌, map, refl, sym, ap, ◌∙◌}
 use Rattle.std.proofs.Common.{append_assoc, append-nil, Ok, Result}
 use Rattle.std.specs.Prelude.{⊤}
 use Rattle.std.specs.List.{filter}
@@ -9,7 +9,8 @@ use Rattle.dpx_base.specs.declared.pixel.Pixel.{Pixel}
 use Rattle.dpx_msa.specs.declared.attributes.Attributes.{Attributes}
 use Rattle.dpx_msa.specs.Reading.{read_attributes}
 use Rattle.dpx_msa.specs.declared.msa_bad.MsaBad.{MsaBad}
-use Rattle.dpx_grammar.specs.Accepted.{ActivePart, FrameParts, frame_parts, valid_rows, is_ended, lines_of, pixels_in_rows}
+use Rattle.dpx_grammar.specs.Accepted.{ActivePart, FrameParts, frame_parts, valid_rows, is_ended, lines_of}
+use Rattle.dpx_grammar.specs.Accepted.{pixels_in_rows}
 use Rattle.dpx_grammar.specs.Accepted.{Frame, IsFrame, AreFrames, pixels_of}
 use Rattle.dpx_grammar.specs.Gathered.{gathered}
 use Rattle.dpx_grammar.specs.Parts.{Part, group, block, filler, attributes, secondary, begins, valid, stuffing}
@@ -216,10 +217,13 @@ frames_go lanes (t ∷ []) (u ∷ us) (f ∷ []) (g ∷ gs) p h k =
     let a = attributes_one lanes t u f g p.0 h.0 own in
     let show = shown lanes g.attributes in (
       a,
-      (map show p.1.0, frame_lines lanes u g g.attributes refl own
-          ∙ (ap (map show) p.1.1
-          ∙ (map-append show (whole_of t.lines) p.1.0
-          ∙ ap (λ x. x ++ map show p.1.0) (sym (frame_lines lanes t f g.attributes a h.0))))),
+      (
+        map show p.1.0,
+        frame_lines lanes u g g.attributes refl own
+            ∙ (ap (map show) p.1.1
+            ∙ (map-append show (whole_of t.lines) p.1.0
+            ∙ ap (λ x. x ++ map show p.1.0) (sym (frame_lines lanes t f g.attributes a h.0)))),
+      ),
     )
 frames_go lanes (t ∷ []) (u ∷ us) (f ∷ e ∷ fs) (g ∷ gs) p h k = absurd h
 frames_go lanes (t ∷ v ∷ ts) (u ∷ us) (f ∷ []) (g ∷ gs) p h k = absurd (no_frames lanes v ts h.2)

@@ -9,9 +9,10 @@ use Rattle.dpx_base.specs.declared.lanes.Lanes.{Lanes}
 use Rattle.dpx_base.specs.declared.sym.Sym.{Sym}
 use Rattle.dpx_grammar.specs.Accepted.{Frame, AreFrames, Receives, frame_parts, lines_of, valid_rows, is_ended}
 use Rattle.dpx_grammar.specs.Machine.{begun_of, a_bs, a_sr, a_be, an_ss, an_se, an_fs, an_fe, a_bf, Token, row, code}
-use Rattle.dpx_grammar.specs.Machine.{IsToken, token_set, Place, start, head, ids, blank, opened, numbers, packet, active}
+use Rattle.dpx_grammar.specs.Machine.{IsToken, token_set, Place, start, head, ids, blank, opened, numbers, packet}
+use Rattle.dpx_grammar.specs.Machine.{active}
 use Rattle.dpx_grammar.specs.Machine.{fill, step, run, go_on, grown}
-use Rattle.dpx_grammar.specs.Parts.{Part, group, block, filler, attributes, secondary, begins, valid, stuffing, begun}
+use Rattle.dpx_grammar.specs.Parts.{Part, group, block, filler, attributes, secondary, begins, valid, stuffing}
 use Rattle.dpx_grammar.proofs.Prefixes.{no_some, some_is, IsSplit, run_split}
 use Rattle.dpx_grammar.proofs.Unique.{IsRun, cut_runs, blocks, some_lanes, all_take, tokens_one}
 use Rattle.dpx_reception.proofs.FramesGo.{PartsGo, parts_same, parts_on, part_goes, AreFront, frames_go}
@@ -78,7 +79,8 @@ told_block (stuffing rows ∷ w) a b = told_block w a b
 
 block_more : (whole : List Part) (a b : List (List ℕ)) → Goes (whole ++ block a ∷ []) (whole ++ block b ∷ [])
 block_more whole a b =
-    subst (λ ts. PartsGo (frame_parts (whole ++ block a ∷ [])) ts) (told_block whole a b) (stays (whole ++ block a ∷ []))
+    subst (λ ts. PartsGo (frame_parts (whole ++ block a ∷ [])) ts) (told_block whole a b)
+    (stays (whole ++ block a ∷ []))
 
 last_block : (whole : List Part) (a b : List (List ℕ)) → Goes (whole ++ block a ∷ []) ((whole ++ block b ∷ []) ++ [])
 last_block whole a b =

@@ -3,6 +3,7 @@ pub mod FaultsStay
 pub mod FramesGo
 pub mod FramesStay
 pub mod Grown
+pub mod OneLock
 pub mod OneReception
 pub mod SentCaptures
 pub mod SentFrames

@@ -1,9 +1,10 @@
 -- What is received of bytes is one.
-use Rattle.std.proofs.Common.{◌≡◌, ℕ, zero, suc, ◌<◌, ◌≤◌, ◌+◌, ◌⊎◌, inl, inr, List, [], ◌∷◌, ◌++◌, length, take, drop, map}
+use Rattle.std.proofs.Common.{◌≡◌, ℕ, suc, ◌<◌, ◌≤◌, ◌⊎◌, inl, inr, List, [], ◌∷◌, ◌++◌, length, take, drop, map}
 use Rattle.std.proofs.Common.{refl, sym, ap, subst, ◌∙◌, arith, append-nil, length-append, Bool, Option, Some, None}
 use Rattle.std.specs.Prelude.{slice_get}
 use Rattle.std.proofs.lemmas.Bool.{cases_lt}
-use Rattle.std.proofs.lemmas.List.{get_or-map, length-map, length-take, take_all, take_at, take-append-le, take-append-drop}
+use Rattle.std.proofs.lemmas.List.{get_or-map, length-map, length-take, take_all, take_at, take-append-le}
+use Rattle.std.proofs.lemmas.List.{take-append-drop}
 use Rattle.std.proofs.lemmas.Option.{same_Some}
 use Rattle.dpx_base.specs.Lanes.{lanes_count}
 use Rattle.dpx_base.specs.Words.{words_of, BadAt, LaneSymbols}
@@ -20,7 +21,7 @@ use Rattle.dpx_align.proofs.Once.{lock_once}
 use Rattle.dpx_align.proofs.OneFault.{faults_are_one, symbols_are_one}
 use Rattle.dpx_align.proofs.SetsStay.{sets_stay}
 use Rattle.dpx_align.proofs.Teams.{cut_all}
-use Rattle.dpx_grammar.specs.Accepted.{Frame, Receives, IsAccepted}
+use Rattle.dpx_grammar.specs.Accepted.{Receives, IsAccepted}
 use Rattle.dpx_grammar.proofs.Prefixes.{fronts_are_accepted}
 use Rattle.dpx_grammar.proofs.Unique.{is_one}
 use Rattle.dpx_parse.proofs.OneReason.{one_reason}
@@ -141,8 +142,11 @@ all_or_less u ys b (rest, e) =
       | inl l ↦ inl (sym (take_all (length u) v (omega (arith, l, long))) ∙ front)
       | inr l ↦
           let same : take (length u) ys ≡ u = sym (take-append-le (length u) ys (b ∷ []) l) ∙ front in
-          inr (drop (length u) ys, sym (take-append-drop (length u) ys)
-          ∙ ap (λ x. x ++ drop (length u) ys) same)
+          inr (
+            drop (length u) ys,
+            sym (take-append-drop (length u) ys)
+                ∙ ap (λ x. x ++ drop (length u) ys) same,
+          )
     ]
 
 last_once : (xs ys : List (List Sym)) (a b : List Sym) → xs ++ a ∷ [] ≡ ys ++ b ∷ [] → (xs ≡ ys) × (a ≡ b)
@@ -315,7 +319,8 @@ up_to_once link words n (word_fault bad) no_fault xs ys long h p k q =
     absurd (no_word words n bad long k.no_fault h.0)
 up_to_once link words n (word_fault bad) (word_fault other) xs ys long h p k q =
     let e : bad ≡ other = faults_are_one words bad other h.0 k.0 in
-    let own = subst (λ (x : AlignBad). Gives words (place_of x).clock (λ plain. AreSets link.enhanced plain xs)) e h.1 in
+    let own = subst (λ (x : AlignBad). Gives words (place_of x).clock (λ plain. AreSets link.enhanced plain xs))
+    e h.1 in
     (ap word_fault e, sets_once link.enhanced words (place_of other).clock xs ys own k.1)
 up_to_once link words n (word_fault bad) (set_fault other) xs ys long h p k q =
     absurd (word_and_refused link words n bad xs ys other h p k)
@@ -326,7 +331,9 @@ up_to_once link words n (set_fault bad) (word_fault other) xs ys long h p k q =
 up_to_once link words n (set_fault bad) (set_fault other) xs ys long (c, a, g, r) p (d, b, k, s) q =
     elim (cases_lt c d) [
       | inl l ↦ refused_once link words c d xs ys a b bad other (omega (arith, l)) g k r s
-      | inr l ↦ swapped (set_fault other) (set_fault bad) ys xs (refused_once link words d c ys xs b a other bad l k g s r)
+      | inr l ↦
+          swapped (set_fault other) (set_fault bad) ys xs
+          (refused_once link words d c ys xs b a other bad l k g s r)
     ]
 
 pub received_even : (lanes : ℕ) (bytes : List ℕ) → Long (received_words lanes bytes) (clocks_in lanes bytes)
@@ -340,16 +347,3 @@ one_reception link bytes fault other frames others tail end a b =
     let own = subst (λ (x : List (List Sym)). Receives link.enhanced lanes x frames tail) s.1 a.accepted in
     let r = is_one link.enhanced link.lanes b.sets frames others tail end own b.accepted in
     (s.0, r.0, r.1)
-
-lock_is_one : (enhanced : Bool) (plain : List (List Sym)) (lock other : Option ℕ) → LockIs enhanced plain lock
-    → LockIs enhanced plain other → lock ≡ other
-lock_is_one enhanced plain None None h k = refl
-lock_is_one enhanced plain None (Some m) h k = absurd (h m k)
-lock_is_one enhanced plain (Some m) None h k = absurd (k m h)
-lock_is_one enhanced plain (Some m) (Some n) h k = ap Some (lock_once (sr_group enhanced) plain m n h k)
-
-pub one_lock : IsOneLock
-one_lock link bytes lock other a b =
-    let e = symbols_are_one (received_words (lanes_count link.lanes) bytes) a.plain b.plain a.symbols b.symbols in
-    lock_is_one link.enhanced b.plain lock other
-    (subst (λ (x : List (List Sym)). LockIs link.enhanced x lock) e a.lock_is) b.lock_is
