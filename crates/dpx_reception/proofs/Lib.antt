@@ -1,0 +1,10 @@
+pub mod DueStays
+pub mod FaultsStay
+pub mod FramesGo
+pub mod FramesStay
+pub mod Grown
+pub mod OneLock
+pub mod OneReception
+pub mod SentCaptures
+pub mod SentFrames
+pub mod WordsBack

@@ -1,0 +1,4 @@
+pub mod Bytes
+pub mod Reception
+pub mod Due
+pub mod Laws
