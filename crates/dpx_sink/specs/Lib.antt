@@ -1,8 +1,0 @@
-pub mod Room
-pub mod Told
-pub mod Writes
-pub mod Line
-pub mod Reader
-pub mod Clocks
-pub mod Receiver
-pub mod Laws
