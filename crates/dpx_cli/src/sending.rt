@@ -17,8 +17,8 @@ use dpx_timing::{Plan, fit};
 use std::alloc::Global;
 use std::thread::Threads;
 
-/// Sends a job's shape over a link: finds the plan, prints it, sends its frames, and prints how much was sent. Where the
-/// mode does not fit, neither the pipe nor the sink of the capture is touched.
+/// Sends a job's shape over a link: finds the plan, prints it, sends its frames, and prints how much was sent. Where
+/// the mode does not fit, neither the pipe nor the sink of the capture is touched.
 pub(crate) fn send_shape<T: Pipe, O: Sink, G: Gate, R: Threads + Sync>(
     rt: &R,
     alloc: Global,

@@ -66,7 +66,10 @@ fn sends<R: Abort + Threads + Sync>(
         lines: 4,
         clocks,
     };
-    assert_eq!(rt; send(rt, alloc, plan, &mut pipe, &mut out, workers), Ok(sent));
+    assert_eq!(rt;
+        send(rt, alloc, plan, &mut pipe, &mut out, workers),
+        Ok(sent)
+    );
     assert_eq!(rt; pipe.sets().len() as u64, clocks);
     assert_eq!(rt; out.bytes().len(), size);
     assert!(rt; out.bytes().starts_with(&FIRST_WORDS));
@@ -79,7 +82,14 @@ fn two_frames_make_these_bytes(rt: HostRuntime) -> Result<(), Fail> {
     let enhanced = two_frames(&rt, true);
     sends(&rt, alloc, &enhanced, Workers::One, 699, 2804)?;
     sends(&rt, alloc, &enhanced, Workers::Lanes, 699, 2804)?;
-    sends(&rt, alloc, &two_frames(&rt, false), Workers::Lanes, 696, 2792)
+    sends(
+        &rt,
+        alloc,
+        &two_frames(&rt, false),
+        Workers::Lanes,
+        696,
+        2792,
+    )
 }
 
 /// Sending ends so, and so many bytes were taken: a front of the whole ones.
@@ -95,8 +105,14 @@ fn stops<R: Abort + Threads + Sync>(
     let mut pipe = MemPipe::new(pixels.to_vec(alloc)?, fails.to_vec(alloc)?);
     let mut out = MemSink::new(alloc, room, Vec::new(alloc))?;
     let plan = two_frames(rt, true);
-    assert_eq!(rt; send(rt, alloc, &plan, &mut pipe, &mut out, Workers::One), Err(end));
-    assert_eq!(rt; out.bytes().len(), if end == DriveEnd::WriteFault { room } else { 0 });
+    assert_eq!(rt;
+        send(rt, alloc, &plan, &mut pipe, &mut out, Workers::One),
+        Err(end)
+    );
+    assert_eq!(rt;
+        out.bytes().len(),
+        if end == DriveEnd::WriteFault { room } else { 0 }
+    );
     assert!(rt; whole.starts_with(out.bytes()));
     Ok(())
 }
@@ -106,7 +122,14 @@ fn sending_stops_where_something_fails(rt: HostRuntime) -> Result<(), Fail> {
     let alloc = rt.alloc();
     let mut pipe = MemPipe::new(PIXELS.to_vec(alloc)?, Vec::new(alloc));
     let mut out = MemSink::new(alloc, 3000, Vec::new(alloc))?;
-    let _ = send(&rt, alloc, &two_frames(&rt, true), &mut pipe, &mut out, Workers::Lanes);
+    let _ = send(
+        &rt,
+        alloc,
+        &two_frames(&rt, true),
+        &mut pipe,
+        &mut out,
+        Workers::Lanes,
+    );
     let whole = out.bytes();
     let mut bad = PIXELS;
     bad[5].g = 256;
@@ -115,9 +138,25 @@ fn sending_stops_where_something_fails(rt: HostRuntime) -> Result<(), Fail> {
         value: 256,
     };
     stops(&rt, alloc, whole, &PIXELS, &[0], 3000, DriveEnd::PipeFault)?;
-    stops(&rt, alloc, whole, &PIXELS, &[228], 3000, DriveEnd::PipeFault)?;
+    stops(
+        &rt,
+        alloc,
+        whole,
+        &PIXELS,
+        &[228],
+        3000,
+        DriveEnd::PipeFault,
+    )?;
     stops(&rt, alloc, whole, &PIXELS, &[], 0, DriveEnd::WriteFault)?;
     stops(&rt, alloc, whole, &PIXELS, &[], 1000, DriveEnd::WriteFault)?;
-    stops(&rt, alloc, whole, &PIXELS[..63], &[], 3000, DriveEnd::Ended(63))?;
+    stops(
+        &rt,
+        alloc,
+        whole,
+        &PIXELS[..63],
+        &[],
+        3000,
+        DriveEnd::Ended(63),
+    )?;
     stops(&rt, alloc, whole, &bad, &[], 3000, ended)
 }
