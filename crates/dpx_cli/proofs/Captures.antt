@@ -1,7 +1,7 @@
 -- What was handed to a pipe and what was taken of a capture, step by step.
-use Rattle.std.proofs.Common.{◌≡◌, ◌⊎◌, ◌≤◌, ℕ, List, [], ◌++◌, refl, sym, ap, ◌∙◌, subst, inl, inr, append_assoc}
+use Rattle.std.proofs.Common.{◌≡◌, ℕ, List, [], ◌++◌, refl, sym, ap, ◌∙◌, subst, inl, inr, append_assoc}
 use Rattle.std.proofs.Common.{Result, Ok, Err, Option, Some, None}
-use Rattle.std.specs.Prelude.{⊤, IfSome, OnOk, option_map}
+use Rattle.std.specs.Prelude.{⊤, IfSome, option_map}
 use Rattle.std.proofs.lemmas.List.{append-nil}
 use Rattle.std.specs.Io.KnownBytes.{Appends}
 use Rattle.dpx_base.specs.declared.pixel.Pixel.{Pixel}

@@ -1,5 +1,5 @@
 -- The command `send`, from its steps to its contract.
-use Rattle.std.proofs.Common.{◌≡◌, ◌⊎◌, ℕ, List, [], ◌++◌, refl, sym, ap, ◌∙◌, subst, arith, inl, inr}
+use Rattle.std.proofs.Common.{◌≡◌, ◌⊎◌, ℕ, List, [], ◌++◌, refl, sym, ap, ◌∙◌, subst, inl, inr}
 use Rattle.std.proofs.Common.{Result, Ok, Err, Option, Some, None}
 use Rattle.std.specs.Prelude.{⊤, IfSome}
 use Rattle.dpx_base.specs.declared.pixel.Pixel.{Pixel}
@@ -12,17 +12,16 @@ use Rattle.dpx_files.specs.declared.job.Need.TheVariants as need
 use Rattle.dpx_files.specs.declared.refusal.JobBad.{JobBad}
 use Rattle.dpx_files.specs.declared.shape.Shape.{Shape}
 use Rattle.dpx_files.specs.Job.{reading, link_asked, shape_asked}
-use Rattle.dpx_source.specs.Drive.{IsWhole}
 use Rattle.dpx_timing.specs.declared.fitting.Unfit.{Unfit}
 use Rattle.dpx_timing.specs.Fit.{fit_of}
 use Rattle.dpx_cli.specs.declared.stop.Stop.{Stop}
 use Rattle.dpx_cli.specs.declared.stop.Stop.TheVariants as stop
-use Rattle.dpx_cli.specs.Jobs.{HasJob, JobRefused}
+use Rattle.dpx_cli.specs.Jobs.{HasJob}
 use Rattle.dpx_cli.specs.Printing.{StepsDo, StopsAtOnce, CommandPrints}
-use Rattle.dpx_cli.specs.SendLines.{bad_pixel_line, pixels_ended_line, plan_line, sent_line, unfit_line}
-use Rattle.dpx_cli.specs.Sending.{shaped, PixelsStop, PlanSent, SendsAll, SentSome, SentAll, ShapeSent}
+use Rattle.dpx_cli.specs.SendLines.{bad_pixel_line, pixels_ended_line, unfit_line}
+use Rattle.dpx_cli.specs.Sending.{shaped, PixelsStop, PlanSent, SentSome, SentAll, ShapeSent}
 use Rattle.dpx_cli.specs.Send.{FitJob, JobSent, SendCauses, SendDoes, SendsSome, SaysSent, SaysRefused, SaysUnfit, UnfitJob}
-use Rattle.dpx_cli.specs.Send.{IsSendStatus, StatusOfFit, StatusOfJob, StatusOfPixels}
+use Rattle.dpx_cli.specs.Send.{IsSendStatus, StatusOfFit, StatusOfJob}
 use Rattle.dpx_cli.specs.Status.{IsClean}
 use Rattle.dpx_cli.specs.Step.{Step}
 use Rattle.dpx_cli.specs.Stop.{bad_of, job_line}

@@ -2,7 +2,6 @@
 -- the capture, `out` the sink of the report; `Kept` is the fact that the pipe and the sink of the capture are as they
 -- were.
 use Rattle.std.specs.Prelude.{◌≡◌, ◌≢◌, ◌⊎◌, ℕ, List, [], ◌++◌, Option, Some, IfSome, Result, Ok, Err, ⊤}
-use Rattle.dpx_base.specs.declared.link.Link.{Link}
 use Rattle.dpx_base.specs.declared.pixel.Pixel.{Pixel}
 use Rattle.dpx_base.specs.Faults.{Rose}
 use Rattle.dpx_base.specs.Pipe.{PipeState}

@@ -1,4 +1,4 @@
-use Rattle.std.proofs.Common.{◌≡◌, ap}
+use Rattle.std.proofs.Common.{ap}
 use Rattle.dpx_cli.specs.Step.{◌⇒◌}
 use Rattle.dpx_cli.proofs.Printings.{command_prints}
 use Rattle.dpx_cli.proofs.Sends.{send_does}

@@ -1,7 +1,5 @@
-use Rattle.std.proofs.Common.{◌≡◌, rules, refl, Result, Ok, Err}
-use Rattle.std.specs.Prelude.{⊤}
+use Rattle.std.proofs.Common.{◌≡◌, rules, refl, Ok, Err}
 use Rattle.std.proofs.lemmas.Result.{err_from_is_err_and}
-use Rattle.dpx_cli.specs.declared.stop.Stop.{Stop}
 use Rattle.dpx_cli.specs.Printing.{StepPrints}
 use Rattle.dpx_cli.specs.SendLines.{plan_line}
 use Rattle.dpx_cli.specs.Sending.{WritesCapture}

@@ -1,4 +1,4 @@
-use Rattle.std.proofs.Common.{◌≡◌, ◌∙◌, sym, subst}
+use Rattle.std.proofs.Common.{subst}
 use Rattle.dpx_base.specs.Plan.{PlanFacts}
 use Rattle.dpx_cli.specs.Sending.{WritesCapture}
 use Rattle.dpx_cli.specs.Step.{◌⇒◌}

@@ -1,4 +1,4 @@
-use Rattle.std.proofs.Common.{◌≡◌, ◌∙◌, ap}
+use Rattle.std.proofs.Common.{◌∙◌}
 use Rattle.dpx_base.specs.Capture.{header_bytes}
 use Rattle.dpx_cli.specs.Step.{◌⇒◌}
 use Rattle.dpx_cli.specs.Transfer.{Prints, PrintsFront}

@@ -1,4 +1,4 @@
-use Rattle.std.proofs.Common.{◌≡◌, rules, refl, Ok, Err}
+use Rattle.std.proofs.Common.{◌≡◌, rules, Ok, Err}
 use Rattle.std.proofs.lemmas.Result.{err_from_is_err_and}
 use Rattle.dpx_files.specs.Job.{link_asked}
 use Rattle.dpx_cli.specs.Jobs.{HasJob}
