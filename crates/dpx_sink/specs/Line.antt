@@ -1,7 +1,6 @@
 -- What the line under way stands for.
-use Rattle.std.specs.Prelude.{ℕ, ◌≡◌, ◌<◌, ◌≤◌, ◌*◌, ◌+◌, true, false, List, [], length, min, slice_index, slice_index_or}
+use Rattle.std.specs.Prelude.{ℕ, ◌≡◌, ◌≤◌, true, false, List, take}
 use Rattle.std.specs.Prelude.{Some, None}
-use Rattle.dpx_base.specs.Lanes.{lanes_count}
 use Rattle.dpx_parse.specs.declared.event.Event.{Event}
 use Rattle.dpx_parse.specs.declared.event.Event.TheVariants.{Attributes}
 use Rattle.dpx_parse.specs.Stands.{number_of}
@@ -10,18 +9,16 @@ use Rattle.dpx_sink.specs.Told.{Under, none, idle, live, Tally}
 use Rattle.dpx_sink.specs.declared.line_store.LineStore.{LineStore}
 use Rattle.dpx_sink.specs.declared.lines.Lines.{Lines}
 
--- The store has the rows of a line: the bytes that a line with these attributes has room for.
-pub record StoreStands (s : LineStore) (lanes : ℕ) (rows : List (List ℕ)) : Type 0 where
-  pub count : s.count ≡ min (length rows) (line_room)
-  pub bytes : (j lane : ℕ) → j < length rows → lane < lanes → j * lanes + lane < line_room
-      → slice_index s.symbols.items (j * lanes + lane) ≡ slice_index (slice_index_or rows j []) lane
+-- the store has the rows of a line, as far as there is room
+abbrev pub StoreStands : LineStore → List (List ℕ) → Type 0
+StoreStands s rows = s.rows.items ≡ take line_room rows
 
 -- the attributes in force, whether a line is under way, and the rows that the store has of it
 abbrev pub HoldsLine : Lines → Under → Type 0
 HoldsLine l none = (l.attributes ≡ None) × (l.live ≡ false)
 HoldsLine l (idle a) = (l.attributes ≡ Some a) × (l.live ≡ false) × (a.width ≤ 8192)
 HoldsLine l (live a rows) =
-    (l.attributes ≡ Some a) × (l.live ≡ true) × (a.width ≤ 8192) × StoreStands l.store (lanes_count l.lanes) rows
+    (l.attributes ≡ Some a) × (l.live ≡ true) × (a.width ≤ 8192) × StoreStands l.store rows
 
 -- attributes that an event tells have a width for which there is room
 abbrev pub Fits : Event → Type 0

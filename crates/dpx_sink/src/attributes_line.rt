@@ -32,25 +32,31 @@ fn push_number(line: &mut LineText, word: &str, number: u32)
     push(line, Buffer::new().format(number).as_bytes());
 }
 
+fn bit(b: bool) -> u32
+    ensures { result ≡ bit b }
+{
+    u32::from(b)
+}
+
 /// The line that tells attributes.
 pub(crate) fn attributes_line(a: &Attributes) -> LineText
     ensures { result.items ≡ attributes_line a.now }
 {
     let mut line = ArrayVec::new();
-    push_number(&mut line, "attributes width ", u32::from(a.width));
-    push_number(&mut line, " height ", u32::from(a.height));
-    push_number(&mut line, " total ", u32::from(a.htotal));
-    push_number(&mut line, " ", u32::from(a.vtotal));
-    push_number(&mut line, " start ", u32::from(a.hstart));
-    push_number(&mut line, " ", u32::from(a.vstart));
-    push_number(&mut line, " sync ", u32::from(a.hsw));
-    push_number(&mut line, " ", u32::from(a.vsw));
-    push_number(&mut line, " polarity ", u32::from(a.hsp));
-    push_number(&mut line, " ", u32::from(a.vsp));
+    push_number(&mut line, "attributes width ", a.width as u32);
+    push_number(&mut line, " height ", a.height as u32);
+    push_number(&mut line, " total ", a.htotal as u32);
+    push_number(&mut line, " ", a.vtotal as u32);
+    push_number(&mut line, " start ", a.hstart as u32);
+    push_number(&mut line, " ", a.vstart as u32);
+    push_number(&mut line, " sync ", a.hsw as u32);
+    push_number(&mut line, " ", a.vsw as u32);
+    push_number(&mut line, " polarity ", bit(a.hsp));
+    push_number(&mut line, " ", bit(a.vsp));
     push_number(&mut line, " mvid ", a.mvid);
     push_number(&mut line, " nvid ", a.nvid);
-    push_number(&mut line, " misc0 ", u32::from(a.misc0));
-    push_number(&mut line, " depth ", u32::from(a.depth.bits()));
+    push_number(&mut line, " misc0 ", a.misc0 as u32);
+    push_number(&mut line, " depth ", a.depth.bits() as u32);
     push(&mut line, b"\n");
     line
 }

@@ -10,7 +10,7 @@ ghost use Rattle.dpx_sink.specs.Writes.{AppendsFront, Calm, OneRose, sinks};
 
 use crate::attributes_line::attributes_line;
 use crate::line_store::{LINE_ROOM, LineStore};
-use crate::unpack::unpack;
+use crate::unpack::LanePixels;
 use crate::write::write_whole;
 use dpx_base::{Failed, LaneBytes, Lanes, Memory, Sink};
 use dpx_msa::Attributes;
@@ -24,6 +24,7 @@ pub(crate) struct Lines {
     attributes: Option<Attributes>,
     live: bool,
     store: LineStore,
+    pixels: LanePixels,
     records: Vec<u8>,
     closed: u64,
     current: u64,
@@ -46,6 +47,7 @@ impl Lines {
             attributes: None,
             live: false,
             store: LineStore::new(alloc)?,
+            pixels: LanePixels::new(alloc)?,
             records,
             closed: 0,
             current: 0,
@@ -99,7 +101,7 @@ impl Lines {
         ensures lanes { self.new.lanes ≡ self.old.lanes }
     {
         if self.live {
-            self.store.take(self.lanes, row);
+            self.store.take(*row);
         }
     }
 
@@ -125,15 +127,15 @@ impl Lines {
         self.live = false;
         self.current = self.current.saturating_add(1);
         self.lines = self.lines.saturating_add(1);
-        let width = usize::from(attributes.width).min(8192);
-        unpack(
+        let width = attributes.width.min(8192);
+        self.pixels.unpack_line(
             &self.store,
             self.lanes,
             attributes.depth,
             width,
             self.records.as_mut_slice(),
         );
-        write_whole(pix, &self.records.as_slice()[..6 * width])
+        write_whole(pix, &self.records.as_slice()[..6 * usize::from(width)])
     }
 
     /// Takes the next event: a line's pixels are written to `pix` when it ends, and attributes to `log`.

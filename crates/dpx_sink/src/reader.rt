@@ -48,10 +48,10 @@ impl Reader {
     }
 
     /// Reads a set that the aligner gave.
-    fn read<O: Sink>(&mut self, set: LaneSet, pix: &mut O, log: &mut O) -> Result<(), RecvEnd>
-        requires lanes { length set ≡ lanes_count (parser.lanes_of self.old.parser) }
+    fn read<O: Sink>(&mut self, set: &LaneSet, pix: &mut O, log: &mut O) -> Result<(), RecvEnd>
+        requires lanes { length set.now ≡ lanes_count (parser.lanes_of self.old.parser) }
         ensures went { (f : Framing) (words : List (List ℕ)) (p l : List ℕ) → Agrees f self.old
-            → IsNext f self.old words set p l
+            → IsNext f self.old words set.now p l
             → Went (sinks (O.seen pix.old) (O.seen log.old)) (sinks (O.seen pix.new) (O.seen log.new)) p l
             (λ done q m. HasRead f self.new words q m) (λ bad q m. ⊥) (λ bad q m. HasBadSet f words bad q m)
             (λ q m. HasSome f words q m) result }
@@ -62,7 +62,7 @@ impl Reader {
         ensures cause { result ≡ Err RecvEnd.WriteFault
             → OneRose (sinks (O.seen pix.old) (O.seen log.old)) (sinks (O.seen pix.new) (O.seen log.new)) }
     {
-        match self.parser.feed(&set) {
+        match self.parser.feed(set) {
             Ok(event) => match self.lines.hear(event, pix, log) {
                 Ok(()) => Ok(()),
                 Err(_) => Err(RecvEnd::WriteFault),
@@ -90,13 +90,16 @@ impl Reader {
         ensures cause { result ≡ Err RecvEnd.WriteFault
             → OneRose (sinks (O.seen pix.old) (O.seen log.old)) (sinks (O.seen pix.new) (O.seen log.new)) }
     {
-        match self.aligner.step() {
-            Ok(Step::Hungry) => Ok(false),
-            Ok(Step::Set { set, .. }) => match self.read(set, pix, log) {
+        let step = match self.aligner.step() {
+            Ok(step) => step,
+            Err(bad) => return Err(RecvEnd::Align(bad)),
+        };
+        match &step {
+            Step::Hungry => Ok(false),
+            Step::Set { set, .. } => match self.read(set, pix, log) {
                 Ok(()) => Ok(true),
                 Err(end) => Err(end),
             },
-            Err(bad) => Err(RecvEnd::Align(bad)),
         }
     }
 
