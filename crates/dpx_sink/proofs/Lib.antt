@@ -4,3 +4,10 @@ pub mod Stores
 pub mod Onto
 pub mod Columns
 pub mod Turns
+pub mod Writes
+pub mod Events
+pub mod Fitting
+pub mod Tallies
+pub mod WholeLines
+pub mod Given
+pub mod Readers

@@ -33,7 +33,7 @@ pub(crate) struct Lines {
 }
 
 impl Lines {
-    ghost use Rattle.dpx_sink.specs.Line.{Holds, Fits};
+    ghost use Rattle.dpx_sink.specs.Line.{Holds, Fits, IsSized};
 
     /// Takes all its memory; no attributes are in force.
     pub fn new(alloc: Global, lanes: Lanes) -> Result<Lines, Memory>
@@ -73,7 +73,7 @@ impl Lines {
     }
 
     fn take_attributes(&mut self, attributes: &Attributes)
-        ensures state { (under : Under) (t : Tally) → attributes.now.width ≤ 8192 → Holds self.old under t
+        ensures state { (under : Under) (t : Tally) → IsSized attributes.now → Holds self.old under t
             → Holds self.new (after under (Event.Attributes attributes.now))
             (tallied under t (Event.Attributes attributes.now)) }
         ensures lanes { self.new.lanes ≡ self.old.lanes }

@@ -2,6 +2,7 @@ ghost use Rattle.std.specs.Prelude.{◌≡◌, ◌<◌, ◌≤◌, ◌*◌, ◌/
 ghost use Rattle.std.specs.Prelude.{vec_capacity};
 ghost use Rattle.dpx_base.specs.Lanes.{lanes_count};
 ghost use Rattle.dpx_base.specs.Mode.{depth_bits};
+ghost use Rattle.dpx_base.specs.Timing.{symbols_of};
 ghost use Rattle.dpx_grammar.specs.Accepted.{pixels_in_rows};
 ghost use Rattle.dpx_pack.specs.Lanes.{whole_pixel_count};
 ghost use Rattle.dpx_reception.specs.Due.{pixel_records};
@@ -116,6 +117,27 @@ impl LanePixels {
     }
 
     /// The records of the pixels of a line of this width, in front of the room for them.
+    fn unpack_depth<const C: usize>(
+        &mut self,
+        store: &LineStore,
+        lanes: Lanes,
+        width: usize,
+        symbols: usize,
+        records: &mut [u8],
+    )
+        requires depth { (6 ≤ C) × (C ≤ 16) }
+        requires width { width ≤ 8192 }
+        requires symbols { symbols ≡ symbols_of width (lanes_count lanes) (3 * C) }
+        requires room { length records.old ≡ line_room }
+        ensures room { length records.new ≡ line_room }
+        ensures records { (rows : List (List ℕ)) → StoreStands store.now rows
+            → take (6 * width) records.new ≡ pixel_records (pixels_in_rows C (lanes_count lanes) width rows) }
+    {
+        self.unpack::<C>(store, lanes, symbols);
+        self.write_records(lanes, width, records);
+    }
+
+    /// The same, for attributes' depth.
     pub fn unpack_line(
         &mut self,
         store: &LineStore,
@@ -131,14 +153,14 @@ impl LanePixels {
             → take (6 * width) records.new
             ≡ pixel_records (pixels_in_rows (depth_bits depth) (lanes_count lanes) width rows) }
     {
-        let symbols = symbols(width, depth, lanes) as usize;
+        let count = symbols(width, depth, lanes) as usize;
+        let pixels = usize::from(width);
         match depth {
-            Depth::Six => self.unpack::<6>(store, lanes, symbols),
-            Depth::Eight => self.unpack::<8>(store, lanes, symbols),
-            Depth::Ten => self.unpack::<10>(store, lanes, symbols),
-            Depth::Twelve => self.unpack::<12>(store, lanes, symbols),
-            Depth::Sixteen => self.unpack::<16>(store, lanes, symbols),
+            Depth::Six => self.unpack_depth::<6>(store, lanes, pixels, count, records),
+            Depth::Eight => self.unpack_depth::<8>(store, lanes, pixels, count, records),
+            Depth::Ten => self.unpack_depth::<10>(store, lanes, pixels, count, records),
+            Depth::Twelve => self.unpack_depth::<12>(store, lanes, pixels, count, records),
+            Depth::Sixteen => self.unpack_depth::<16>(store, lanes, pixels, count, records),
         }
-        self.write_records(lanes, usize::from(width), records);
     }
 }
