@@ -1,6 +1,9 @@
 -- What a reader's parts stand for, step by step.
-use Rattle.std.proofs.Common.{ℕ, ◌≡◌, ◌∙◌, ◌+◌, Bool, List, [], ◌∷◌, ◌++◌, length, subst, sym, ap, arith, length-append, Option, Some, None, inl, inr, slice_get}
-use Rattle.dpx_align.specs.Aligner.{WasFed, IsFaultOf, CountedTo, Answers, sets_given, place_of, is_enhanced}
+use Rattle.std.proofs.Common.{ℕ, ◌≡◌, ◌∙◌, ◌+◌, Bool, List, [], ◌∷◌, ◌++◌, length, subst, sym, ap, arith, length-append, Option, Some, None, Ok, inl, inr, slice_get}
+use Rattle.dpx_align.specs.Aligner.{WasFed, IsFaultOf, CountedTo, Answers, NoSet, sets_given, given_after, place_of}
+use Rattle.dpx_align.specs.Aligner.{is_enhanced, lanes_of as aligner_lanes}
+use Rattle.dpx_align.specs.declared.step.Step.{Step}
+use Rattle.dpx_align.specs.declared.step.Step.TheVariants.{Set, Hungry}
 use Rattle.dpx_align.specs.Faults.{Counted, NoFault, Symbols}
 use Rattle.dpx_align.specs.Lock.{sr_group, SetOf}
 use Rattle.dpx_align.specs.Search.{lengthened}
@@ -98,3 +101,43 @@ pub given_still : (f : Framing) (a b : Aligner) (words : List (List ℕ)) (sets 
     → HasGiven f a words sets → HasGiven f b words sets
 given_still f a b words sets given fed h =
     record { plain = h.plain; fed = fed h.plain h.fed; count = h.count ∙ sym given; first = h.first }
+
+-- an aligner's answers, case by case
+pub answer_set : (a : Aligner) (words : List (List ℕ)) (plain : List (List Sym)) (step : Step) (number : ℕ) (set : List Sym)
+    → step ≡ Set number set → Answers a words plain (Ok step)
+    → SetOf (sr_group (is_enhanced a)) plain (sets_given a) set
+answer_set a words plain step number set e h =
+    let r = subst (λ s. Answers a words plain (Ok s)) e h in
+    subst (λ n. SetOf (sr_group (is_enhanced a)) plain n set) r.0 r.1
+
+pub answer_hungry : (a : Aligner) (words : List (List ℕ)) (plain : List (List Sym)) (step : Step)
+    → step ≡ Hungry → Answers a words plain (Ok step) → NoFault words × NoSet (is_enhanced a) plain (sets_given a)
+answer_hungry a words plain step e h = subst (λ s. Answers a words plain (Ok s)) e h
+
+pub given_set : (a b : Aligner) (step : Step) (number : ℕ) (set : List Sym) → step ≡ Set number set
+    → sets_given b ≡ given_after a (Ok step) → sets_given b ≡ sets_given a + 1
+given_set a b step number set e h = h ∙ ap (λ s. given_after a (Ok s)) e
+
+pub given_hungry : (a b : Aligner) (step : Step) → step ≡ Hungry → sets_given b ≡ given_after a (Ok step)
+    → sets_given b ≡ sets_given a
+given_hungry a b step e h = h ∙ ap (λ s. given_after a (Ok s)) e
+
+-- another aligner of the same link
+abbrev pub stepped : Reader → Aligner → Reader
+stepped r b = record { aligner = b; parser = r.parser; lines = r.lines }
+
+pub agrees_on : (f : Framing) (r : Reader) (b : Aligner) → aligner_lanes b ≡ aligner_lanes r.aligner
+    → is_enhanced b ≡ is_enhanced r.aligner → Agrees f r → Agrees f (stepped r b)
+agrees_on f r b lanes en a = record {
+  aligner = lanes ∙ a.aligner;
+  aligner_enhanced = en ∙ a.aligner_enhanced;
+  parser = a.parser;
+  parser_enhanced = a.parser_enhanced;
+  lines = a.lines;
+}
+
+-- the symbols of words without a fault
+pub all_symbols : (words : List (List ℕ)) (plain : List (List Sym)) → NoFault words → Counted words plain
+    → Symbols words plain
+all_symbols words plain n (inl h) = h.1
+all_symbols words plain n (inr (clock, lane, f, h)) = absurd (n lane clock f.within f.bad)

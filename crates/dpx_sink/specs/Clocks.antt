@@ -4,7 +4,7 @@ use Rattle.dpx_align.specs.Aligner.{CanFeed, clocks_fed}
 use Rattle.dpx_base.specs.Lanes.{lanes_count}
 use Rattle.dpx_base.specs.declared.link.Link.{Link}
 use Rattle.dpx_reception.specs.Bytes.{received_words}
-use Rattle.dpx_sink.specs.Reader.{Framing, HasRead, HasReadAll, Agrees}
+use Rattle.dpx_sink.specs.Reader.{Framing, HasReadWhole, Agrees}
 use Rattle.dpx_sink.specs.declared.clocks.Clocks.{Clocks}
 
 -- whole clocks, and what is left of an unfinished one
@@ -22,8 +22,7 @@ framing_of link = record { enhanced = link.enhanced; lanes = link.lanes }
 pub record HasTaken (c : Clocks) (bytes records text : List ℕ) : Type 0 where
   pub done : List ℕ
   pub cut : IsCut (lanes_count c.link.lanes) bytes done c.left.items
-  pub read : HasRead (framing_of c.link) c.reader (received_words (lanes_count c.link.lanes) done) records text
-  pub all : HasReadAll (framing_of c.link) (received_words (lanes_count c.link.lanes) done) records text
+  pub read : HasReadWhole (framing_of c.link) c.reader (received_words (lanes_count c.link.lanes) done) records text
 
 -- a front of the bytes ends as P says of its words
 pub record InFront (link : Link) (P : List (List ℕ) → Type 0) (bytes : List ℕ) : Type 0 where

@@ -75,20 +75,17 @@ pub record IsNext (f : Framing) (r : Reader) (words : List (List ℕ)) (set : Li
   pub holds : Holds r.lines under tally
   pub tell : Tell f sets records text under tally
 
--- all sets that are complete in the words were read, and no word is bad
-pub record ReadsAll (f : Framing) (words : List (List ℕ)) (sets : List (List Sym)) : Type 0 where
-  pub plain : List (List Sym)
-  pub no_fault : NoFault words
-  pub counted : CountedSymbols words plain
-  pub are_sets : AreSets f.enhanced plain sets
-
--- the same, for some sets that give these records and this text
-pub record HasReadAll (f : Framing) (words : List (List ℕ)) (records text : List ℕ) : Type 0 where
+-- It read all sets that are complete in them, and no word is bad.
+pub record HasReadWhole (f : Framing) (r : Reader) (words : List (List ℕ)) (records text : List ℕ) : Type 0 where
   pub sets : List (List Sym)
-  pub all : ReadsAll f words sets
+  pub given : HasGiven f r.aligner words sets
+  pub parsed : StandsFor r.parser sets
   pub under : Under
   pub tally : Tally
+  pub holds : Holds r.lines under tally
   pub tell : Tell f sets records text under tally
+  pub no_fault : NoFault words
+  pub are_sets : AreSets f.enhanced given.plain sets
 
 -- a word is bad, and the sets before it give these records and this text
 pub record HasBadWord (f : Framing) (words : List (List ℕ)) (bad : AlignBad) (records text : List ℕ) : Type 0 where
@@ -123,10 +120,11 @@ pub record HasSome (f : Framing) (words : List (List ℕ)) (records text : List 
   pub tally : Tally
   pub tell : Tell f sets records text under tally
 
--- what was counted of the sets that were read, as far as 64 bits go
-pub record Counted (f : Framing) (words : List (List ℕ)) (received : Received) : Type 0 where
+-- what was counted of all sets, as far as 64 bits go
+pub record Counted (f : Framing) (words : List (List ℕ)) (plain : List (List Sym)) (received : Received)
+    : Type 0 where
   pub sets : List (List Sym)
-  pub all : ReadsAll f words sets
+  pub are_sets : AreSets f.enhanced plain sets
   pub under : Under
   pub tally : Tally
   pub records : List ℕ
@@ -143,4 +141,4 @@ ReadEnds f words clocks (Err (NoLock stood)) =
     (plain : List (List Sym)) × Symbols words plain × LockIs f.enhanced plain None × (stood ≡ clocks)
 ReadEnds f words clocks (Ok received) =
     (plain : List (List Sym)) × (clock : ℕ) × Symbols words plain × LockIs f.enhanced plain (Some clock)
-    × Counted f words received
+    × Counted f words plain received

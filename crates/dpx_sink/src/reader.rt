@@ -7,7 +7,7 @@ ghost use Rattle.dpx_base.specs.declared.sym.Sym.{Sym};
 ghost use Rattle.dpx_lane.specs.Team.{joined};
 ghost use Rattle.dpx_parse.specs.Parser.{enhanced_of};
 ghost use Rattle.dpx_parse.specs.Parser as parser;
-ghost use Rattle.dpx_sink.specs.Reader.{Framing, HasRead, IsNext, HasReadAll, HasBadWord, HasBadSet, HasSome, Agrees};
+ghost use Rattle.dpx_sink.specs.Reader.{Framing, HasRead, IsNext, HasReadWhole, HasBadWord, HasBadSet, HasSome, Agrees};
 ghost use Rattle.dpx_sink.specs.Reader.{ReadEnds};
 ghost use Rattle.dpx_sink.specs.Writes.{Went, Calm, OneRose, sinks};
 
@@ -77,7 +77,7 @@ impl Reader {
         ensures went { (f : Framing) (words : List (List ℕ)) (p l : List ℕ) → Agrees f self.old
             → HasRead f self.old words p l
             → Went (sinks (O.seen pix.old) (O.seen log.old)) (sinks (O.seen pix.new) (O.seen log.new)) p l
-            (λ more q m. HasRead f self.new words q m × (more ≡ false → HasReadAll f words q m))
+            (λ more q m. HasRead f self.new words q m × (more ≡ false → HasReadWhole f self.new words q m))
             (λ bad q m. HasBadWord f words bad q m) (λ bad q m. HasBadSet f words bad q m)
             (λ q m. HasSome f words q m) result }
         ensures fewer { IfOk result (λ more. more ≡ true → waiting self.new.aligner < waiting self.old.aligner) }
@@ -109,7 +109,7 @@ impl Reader {
         ensures went { (f : Framing) (words : List (List ℕ)) (p l : List ℕ) → Agrees f self.old
             → HasRead f self.old words p l
             → Went (sinks (O.seen pix.old) (O.seen log.old)) (sinks (O.seen pix.new) (O.seen log.new)) p l
-            (λ done q m. HasRead f self.new words q m × HasReadAll f words q m)
+            (λ done q m. HasReadWhole f self.new words q m)
             (λ bad q m. HasBadWord f words bad q m) (λ bad q m. HasBadSet f words bad q m)
             (λ q m. HasSome f words q m) result }
         ensures rested { OnOk result (CanFeed self.new.aligner) }
@@ -144,15 +144,15 @@ impl Reader {
         requires rested { CanFeed self.old.aligner }
         requires few { clocks_fed self.old.aligner + rows.old.clocks < 2 ^ 62 }
         ensures went { (f : Framing) (words : List (List ℕ)) (p l : List ℕ) → Agrees f self.old
-            → HasRead f self.old words p l → HasReadAll f words p l
+            → HasRead f self.old words p l
             → Went (sinks (O.seen pix.old) (O.seen log.old)) (sinks (O.seen pix.new) (O.seen log.new)) p l
-            (λ done q m. HasRead f self.new (joined words rows.old.rows) q m
-            × HasReadAll f (joined words rows.old.rows) q m)
+            (λ done q m. HasReadWhole f self.new (joined words rows.old.rows) q m)
             (λ bad q m. HasBadWord f (joined words rows.old.rows) bad q m)
             (λ bad q m. HasBadSet f (joined words rows.old.rows) bad q m)
             (λ q m. HasSome f (joined words rows.old.rows) q m) result }
         ensures rested { OnOk result (CanFeed self.new.aligner) }
         ensures agrees { (f : Framing) → Agrees f self.old → Agrees f self.new }
+        ensures rows { rows.new.lanes ≡ rows.old.lanes }
         ensures fed { clocks_fed self.new.aligner ≡ clocks_fed self.old.aligner + rows.old.clocks }
         ensures calm { result ≢ Err RecvEnd.WriteFault
             → Calm (sinks (O.seen pix.old) (O.seen log.old)) (sinks (O.seen pix.new) (O.seen log.new)) }
@@ -166,7 +166,7 @@ impl Reader {
     /// The end, where nothing was refused.
     pub fn finish(&self) -> Result<Received, FinishEnd>
         ensures { (f : Framing) (words : List (List ℕ)) (p l : List ℕ) → Agrees f self.now
-            → HasRead f self.now words p l → HasReadAll f words p l
+            → HasReadWhole f self.now words p l
             → ReadEnds f words (clocks_fed self.now.aligner) result }
     {
         match self.aligner.finish() {
