@@ -25,7 +25,7 @@ symbols_once words a b h k =
 pub symbols_length : (words : List ℕ) (plain : List Sym) → LaneSymbols words plain → length plain ≡ length words
 symbols_length words plain h = h.key.size ∙ coded_length h.from h.coded words h.end h.code
 
-symbols_front : (n : ℕ) (words : List ℕ) (plain : List Sym) → n ≤ length words → LaneSymbols words plain
+pub symbols_front : (n : ℕ) (words : List ℕ) (plain : List Sym) → n ≤ length words → LaneSymbols words plain
     → LaneSymbols (take n words) (take n plain)
 symbols_front n words plain l h =
     let f = coded_front n h.from h.coded words h.end h.code in

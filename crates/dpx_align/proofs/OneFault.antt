@@ -1,14 +1,18 @@
 -- The first word fault is one, and so is its reason.
-use Rattle.std.proofs.Common.{◌≡◌, ℕ, inl, inr, List, take, sym, ap, subst, ◌∙◌, arith}
+use Rattle.std.proofs.Common.{◌≡◌, ℕ, ◌<◌, inl, inr, List, [], length, take, sym, ap, subst, ◌∙◌, arith}
 use Rattle.std.specs.Prelude.{slice_index_or}
 use Rattle.std.proofs.lemmas.Bool.{cases_order}
+use Rattle.std.proofs.lemmas.List.{ext_get_or}
 use Rattle.dpx_base.specs.Words.{words_of}
 use Rattle.dpx_base.specs.declared.place.Place.{Place}
 use Rattle.dpx_align.specs.Aligner.{place_of, HasReason}
 use Rattle.dpx_align.specs.Faults.{FaultAt}
-use Rattle.dpx_align.specs.Laws.{FaultsAreOne}
+use Rattle.dpx_align.specs.Laws.{FaultsAreOne, FaultStays, SymbolsAreOne}
+use Rattle.dpx_align.specs.Lock.{lane_of}
 use Rattle.dpx_align.specs.declared.align_bad.AlignBad.{AlignBad}
 use Rattle.dpx_align.specs.declared.align_bad.AlignBad.TheVariants.{BadWord, NotAWord, WrongColumn}
+use Rattle.dpx_align.proofs.FirstFaults.{first_stays}
+use Rattle.dpx_align.proofs.LaneSymbols.{symbols_once}
 
 clock_once : (words : List (List ℕ)) (c d l m : ℕ) → FaultAt words c l → FaultAt words d m → c ≡ d
 clock_once words c d l m a b =
@@ -65,3 +69,13 @@ faults_are_one words one other a b =
     let e : p ≡ q = place_once words p q a.fault b.fault in
     reason_once (take p.clock (words_of words p.lane)) (slice_index_or (words_of words p.lane) p.clock 0) one other e
     a.reason (subst (λ (x : Place). Reason words x other) (sym e) b.reason)
+
+pub fault_stays : FaultStays
+fault_stays words rows clocks bad size even f = first_stays words rows bad clocks size even f
+
+pub symbols_are_one : SymbolsAreOne
+symbols_are_one words one other a b =
+    ext_get_or [] one other (a.size ∙ sym b.size)
+    (λ lane l.
+    let i : lane < length words = omega (arith, l, a.size) in
+    symbols_once (words_of words lane) (lane_of one lane) (lane_of other lane) (a.each lane i) (b.each lane i))

@@ -1,7 +1,8 @@
 -- What the definitions of faults, locks and sets obey, and that what is sent is received.
 use Rattle.std.specs.Prelude.{◌≡◌, ℕ, ◌<◌, ◌≤◌, Bool, List, length, drop}
-use Rattle.dpx_base.specs.Words.{SentWords, Sendable}
+use Rattle.dpx_base.specs.Words.{SentWords, Sendable, words_of}
 use Rattle.dpx_base.specs.declared.sym.Sym.{Sym}
+use Rattle.dpx_lane.specs.Team.{joined}
 use Rattle.dpx_align.specs.Aligner.{IsFirstFault}
 use Rattle.dpx_align.specs.Faults.{FaultAt, Symbols, cut}
 use Rattle.dpx_align.specs.Lock.{sr_group, SetOf, CompleteAt}
@@ -30,6 +31,18 @@ WordsHaveSymbols =
 abbrev pub FaultsAreOne : Type 0
 FaultsAreOne =
     (words : List (List ℕ)) (one other : AlignBad) → IsFirstFault words one → IsFirstFault words other → one ≡ other
+
+-- It stays, as clocks are added.
+abbrev pub FaultStays : Type 0
+FaultStays =
+    (words rows : List (List ℕ)) (clocks : ℕ) (bad : AlignBad) → length rows ≡ length words
+    → ((lane : ℕ) → lane < length words → length (words_of words lane) ≡ clocks) → IsFirstFault words bad
+    → IsFirstFault (joined words rows) bad
+
+-- Words have one list of symbols a lane.
+abbrev pub SymbolsAreOne : Type 0
+SymbolsAreOne =
+    (words : List (List ℕ)) (one other : List (List Sym)) → Symbols words one → Symbols words other → one ≡ other
 
 -- A number has one set.
 abbrev pub SetsAreOne : Type 0

@@ -72,6 +72,7 @@ impl Aligner {
         ensures fed { (words : List (List ℕ)) (plain : List (List Sym)) → WasFed self.old words plain
             → (more : List (List Sym)) × WasFed self.new (joined words rows.old.rows) (lengthened plain more) }
         ensures clocks { clocks_fed self.new ≡ clocks_fed self.old + rows.old.clocks }
+        ensures rows { rows.new.lanes ≡ rows.old.lanes }
         ensures given { sets_given self.new ≡ sets_given self.old }
         ensures link { (lanes_of self.new ≡ lanes_of self.old) × (is_enhanced self.new ≡ is_enhanced self.old) }
     {

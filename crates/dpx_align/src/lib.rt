@@ -18,5 +18,5 @@ mod step;
 
 pub use align_bad::AlignBad;
 pub use aligner::Aligner;
-pub use laws::{sent_sets_are_received, sets_come_before_the_fault};
+pub use laws::{first_fault_stays, sent_sets_are_received, sets_come_before_the_fault};
 pub use step::{NoLock, Step};

@@ -1,6 +1,8 @@
-//! Tests of layers of the main link: the schedule, the ticker, and the reader of sets.
+//! Tests of layers of the main link: the schedule, the ticker, the aligner and the reader of sets.
 #![tactic(auto)]
 
+#[cfg(test)]
+mod align;
 #[cfg(test)]
 mod frame;
 #[cfg(test)]

@@ -7,7 +7,7 @@ use dpx_msa::MsaBad;
 use dpx_parse::{ParseBad, ParseWhy, Parser};
 use std::process::Abort;
 
-mod sent;
+pub(crate) mod sent;
 
 // Control symbols stand as 256 more than their byte.
 const BS: u16 = 0x1bc;

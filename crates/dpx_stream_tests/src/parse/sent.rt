@@ -54,7 +54,7 @@ fn shown(index: u64) -> u16 {
 }
 
 /// The sets of two frames from the first SR on, on two lanes: each header is 84 clocks behind the one before.
-fn sent(number: u64) -> [u16; 2] {
+pub(crate) fn sent(number: u64) -> [u16; 2] {
     let line = number / 84;
     let place = number % 84;
     if place < 10 {

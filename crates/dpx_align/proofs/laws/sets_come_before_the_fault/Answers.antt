@@ -1,10 +1,6 @@
 use Rattle.dpx_align.proofs.Completing.{sets_are_one, completes_once, sets_come_first}
-use Rattle.dpx_align.proofs.OneFault.{faults_are_one}
 use Rattle.dpx_align.proofs.SetsStay.{sets_stay}
 use Rattle.dpx_align.proofs.laws.sets_come_before_the_fault.Goals as goal
-
-pub returns-clause-fault : goal.returns-clause-fault
-returns-clause-fault c = faults_are_one
 
 pub returns-clause-set : goal.returns-clause-set
 returns-clause-set c = sets_are_one
