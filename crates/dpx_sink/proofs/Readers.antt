@@ -25,7 +25,7 @@ use Rattle.dpx_sink.specs.declared.reader.Reader.{Reader}
 use Rattle.dpx_sink.proofs.Given.{given_are_sets, first_snoc}
 
 -- what holds for the parser's framing holds for the reader's
-by_framing : (P : Bool → Lanes → Type 0) (f : Framing) (r : Reader) → Agrees f r
+pub by_framing : (P : Bool → Lanes → Type 0) (f : Framing) (r : Reader) → Agrees f r
     → P (enhanced_of r.parser) (lanes_of r.parser) → P f.enhanced f.lanes
 by_framing P f r a h = subst (λ e. P e f.lanes) a.parser_enhanced (subst (λ l. P (enhanced_of r.parser) l) a.parser h)
 
@@ -94,13 +94,6 @@ given_on f a b words longer sets given fed h =
       count = h.count ∙ sym given;
       first = λ s set e. sets_stay f.enhanced h.plain w.0 s set (h.first s set e);
     }
-
--- the same sets of the same words
-pub given_still : (f : Framing) (a b : Aligner) (words : List (List ℕ)) (sets : List (List Sym))
-    → sets_given b ≡ sets_given a → ((plain : List (List Sym)) → WasFed a words plain → WasFed b words plain)
-    → HasGiven f a words sets → HasGiven f b words sets
-given_still f a b words sets given fed h =
-    record { plain = h.plain; fed = fed h.plain h.fed; count = h.count ∙ sym given; first = h.first }
 
 -- an aligner's answers, case by case
 pub answer_set : (a : Aligner) (words : List (List ℕ)) (plain : List (List Sym)) (step : Step) (number : ℕ) (set : List Sym)

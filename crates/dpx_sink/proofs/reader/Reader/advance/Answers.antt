@@ -1,5 +1,5 @@
-use Rattle.std.proofs.Common.{◌≡◌, ◌∙◌, ℕ, List, [], ◌∷◌, ◌++◌, true, false}
-use Rattle.dpx_sink.proofs.Readers.{counted_fed, given_more, all_given, given_still, answer_set, answer_hungry}
+use Rattle.std.proofs.Common.{◌≡◌, ◌∙◌, ℕ, List, [], ◌∷◌, ◌++◌, true, false, sym}
+use Rattle.dpx_sink.proofs.Readers.{counted_fed, given_more, all_given, answer_set, answer_hungry}
 use Rattle.dpx_sink.proofs.Readers.{given_set, given_hungry, agrees_on}
 use Rattle.dpx_sink.proofs.Writes.{nothing_wrote, wrote_so, refused_map}
 use Rattle.dpx_sink.proofs.reader.Reader.advance.Goals as goal
@@ -27,9 +27,13 @@ returns-in-Hungry-clause-went g c = λ f words p l a h.
     nothing_wrote _ p l _ (
       record {
         sets = h.sets;
-        given = given_still f old c.step.new.self words h.sets
-            (given_hungry old c.step.new.self c.in-Ok.step c.in-Hungry.is c.in-Ok.ensures.given)
-            (λ plain fed. c.step.ensures.fed words plain fed) h.given;
+        given = record {
+          plain = h.given.plain;
+          fed = c.step.ensures.fed words h.given.plain h.given.fed;
+          count = h.given.count
+              ∙ sym (given_hungry old c.step.new.self c.in-Ok.step c.in-Hungry.is c.in-Ok.ensures.given);
+          first = h.given.first;
+        };
         parsed = h.parsed;
         under = h.under;
         tally = h.tally;
@@ -38,9 +42,13 @@ returns-in-Hungry-clause-went g c = λ f words p l a h.
       },
       λ none. record {
         sets = h.sets;
-        given = given_still f old c.step.new.self words h.sets
-            (given_hungry old c.step.new.self c.in-Ok.step c.in-Hungry.is c.in-Ok.ensures.given)
-            (λ plain fed. c.step.ensures.fed words plain fed) h.given;
+        given = record {
+          plain = h.given.plain;
+          fed = c.step.ensures.fed words h.given.plain h.given.fed;
+          count = h.given.count
+              ∙ sym (given_hungry old c.step.new.self c.in-Ok.step c.in-Hungry.is c.in-Ok.ensures.given);
+          first = h.given.first;
+        };
         parsed = h.parsed;
         under = h.under;
         tally = h.tally;

@@ -1,4 +1,6 @@
 use Rattle.std.proofs.Common.{◌≡◌, ◌∙◌, ℕ, List, sym}
+use Rattle.dpx_align.specs.Aligner.{is_enhanced}
+use Rattle.dpx_sink.specs.Reader.{Framing}
 use Rattle.dpx_lane.specs.Team.{joined}
 use Rattle.dpx_sink.proofs.Readers.{given_on, agrees_on}
 use Rattle.dpx_sink.proofs.reader.Reader.batch.Goals as goal
@@ -17,3 +19,18 @@ returns-clause-went g c = λ f words p l a h.
       holds = h.holds;
       tell = h.tell;
     })
+
+pub pump-requires : goal.pump-requires
+pump-requires g c =
+    let f : Framing = record { enhanced = is_enhanced c.args.self.now.aligner; lanes = c.args.rows.now.lanes } in
+    record {
+      agrees = (
+        f,
+        agrees_on f c.args.self.now c.feed.new.self c.feed.ensures.link.0 c.feed.ensures.link.1 c.requires.agrees,
+      );
+    }
+
+pub returns-clause-agrees : goal.returns-clause-agrees
+returns-clause-agrees g c = λ f a.
+    c.pump.ensures.agrees f
+    (agrees_on f c.args.self.now c.feed.new.self c.feed.ensures.link.0 c.feed.ensures.link.1 a)

@@ -14,7 +14,7 @@ loop-more-init g c = record {
 pub advance-requires : goal.advance-requires
 advance-requires g c =
     let a = c.loop-more.invariant.agrees c.requires.agrees.0 c.requires.agrees.1 in
-    a.aligner ∙ sym a.parser
+    record { lanes = a.aligner ∙ sym a.parser }
 
 pub loop-more-preserved : goal.loop-more-preserved
 loop-more-preserved g c = record {
