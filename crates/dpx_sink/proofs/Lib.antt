@@ -11,3 +11,4 @@ pub mod Tallies
 pub mod WholeLines
 pub mod Given
 pub mod Readers
+pub mod Cuts
