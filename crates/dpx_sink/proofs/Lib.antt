@@ -12,3 +12,5 @@ pub mod WholeLines
 pub mod Given
 pub mod Readers
 pub mod Cuts
+pub mod Starts
+pub mod Batches

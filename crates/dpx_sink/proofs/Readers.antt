@@ -16,7 +16,9 @@ use Rattle.dpx_base.specs.declared.sym.Sym.{Sym}
 use Rattle.dpx_grammar.specs.Accepted.{IsAccepted}
 use Rattle.dpx_parse.proofs.Accepting.{accepts_exactly}
 use Rattle.dpx_parse.specs.FirstFault.{HasNoFault, IsEvent}
-use Rattle.dpx_parse.specs.Parser.{Refuses, lanes_of, enhanced_of}
+use Rattle.dpx_parse.specs.Parser.{Refuses, StandsFor, lanes_of, enhanced_of}
+use Rattle.dpx_parse.specs.declared.parser.Parser.{Parser}
+use Rattle.dpx_parse.proofs.Reading.{no_fault}
 use Rattle.dpx_parse.specs.declared.bad.ParseBad.{ParseBad}
 use Rattle.dpx_parse.specs.declared.event.Event.{Event}
 use Rattle.dpx_reception.specs.Reception.{AreSets, AreFirstSets}
@@ -134,3 +136,13 @@ pub all_symbols : (words : List (List ℕ)) (plain : List (List Sym)) → NoFaul
     → Symbols words plain
 all_symbols words plain n (inl h) = h.1
 all_symbols words plain n (inr (clock, lane, f, h)) = absurd (n lane clock f.within f.bad)
+
+pub no_set_there : (s : ℕ) (set : List Sym) → slice_get {A = List Sym} [] s ≡ Some set → ⊥
+no_set_there s set e = cc
+
+-- a parser that took nothing
+pub nothing_told : (p : Parser) (enhanced : Bool) (lanes : Lanes) → enhanced_of p ≡ enhanced → lanes_of p ≡ lanes
+    → StandsFor p [] → HasNoFault enhanced (lanes_count lanes) []
+nothing_told p enhanced lanes e l stands =
+    subst (λ x. HasNoFault x (lanes_count lanes) []) e
+    (subst (λ x. HasNoFault (enhanced_of p) (lanes_count x) []) l (no_fault p.core [] stands.core))

@@ -34,7 +34,7 @@ impl Reader {
     /// Takes all its memory, and has read nothing.
     pub fn new(alloc: Global, link: Link) -> Result<Reader, Memory>
         ensures start { IfOk result (λ reader.
-            HasRead (record { enhanced = link.enhanced; lanes = link.lanes }) reader
+            HasReadWhole (record { enhanced = link.enhanced; lanes = link.lanes }) reader
             (replicate (lanes_count link.lanes) []) [] []) }
         ensures agrees { IfOk result (Agrees (record { enhanced = link.enhanced; lanes = link.lanes })) }
         ensures rested { IfOk result (λ reader. CanFeed reader.aligner) }
