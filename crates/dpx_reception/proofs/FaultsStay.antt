@@ -1,10 +1,9 @@
 -- From the first fault on, bytes that follow change nothing.
-use Rattle.std.proofs.Common.{◌≡◌, ◌≢◌, ℕ, ◌<◌, ◌≤◌, inl, inr, List, [], ◌∷◌, ◌++◌, length, take, drop, map}
-use Rattle.std.proofs.Common.{refl, sym, ap, subst, ◌∙◌, arith, length-take}
+use Rattle.std.proofs.Common.{◌≡◌, ◌≢◌, ℕ, ◌<◌, ◌≤◌, inl, inr, List, [], ◌∷◌, ◌++◌, length, drop, map}
+use Rattle.std.proofs.Common.{refl, sym, ap, subst, ◌∙◌, arith}
 use Rattle.std.proofs.lemmas.Bool.{cases_lt}
-use Rattle.std.proofs.lemmas.List.{get_or-map, length-map}
+use Rattle.std.proofs.lemmas.List.{length-map}
 use Rattle.dpx_base.specs.Lanes.{lanes_count}
-use Rattle.dpx_base.specs.Words.{words_of}
 use Rattle.dpx_base.specs.declared.link.Link.{Link}
 use Rattle.dpx_base.specs.declared.sym.Sym.{Sym}
 use Rattle.dpx_lane.specs.Team.{joined}
@@ -13,15 +12,16 @@ use Rattle.dpx_align.specs.Faults.{cut}
 use Rattle.dpx_align.specs.declared.align_bad.AlignBad.{AlignBad}
 use Rattle.dpx_align.proofs.FirstFaults.{first_stays}
 use Rattle.dpx_align.proofs.Teams.{cut_all}
-use Rattle.dpx_parse.specs.Parser.{Refuses}
-use Rattle.dpx_parse.specs.declared.bad.ParseBad.{ParseBad}
 use Rattle.dpx_reception.specs.Bytes.{clocks_in, received_words}
 use Rattle.dpx_reception.specs.Laws.{FaultsStay}
-use Rattle.dpx_reception.specs.Reception.{Fault, no_fault, word_fault, set_fault, ReceivedUpTo, Gives, AreFirstSets, AreSets}
-use Rattle.dpx_reception.proofs.Grown.{grown, received_number, received_long, cut_twice, cut_joined, gives_by, some_lanes}
+use Rattle.dpx_reception.specs.Reception.{Fault, no_fault, word_fault, set_fault, ReceivedUpTo, Gives, AreFirstSets}
+use Rattle.dpx_reception.specs.Reception.{AreSets}
+use Rattle.dpx_reception.proofs.Grown.{grown, received_number, received_long, cut_twice, cut_joined, gives_by}
+use Rattle.dpx_reception.proofs.Grown.{some_lanes}
 
 -- the first word fault stands in the longer words too
-pub word_stays : (lanes : ℕ) (bytes more : List ℕ) (bad : AlignBad) → 0 < lanes → IsFirstFault (received_words lanes bytes) bad
+pub word_stays : (lanes : ℕ) (bytes more : List ℕ) (bad : AlignBad) → 0 < lanes
+    → IsFirstFault (received_words lanes bytes) bad
     → IsFirstFault (received_words lanes (bytes ++ more)) bad
 word_stays lanes bytes more bad some f =
     let n = clocks_in lanes bytes in
@@ -85,7 +85,8 @@ up_to_stays link bytes more (word_fault bad) sets differs h =
     ) in (
       word_stays lanes bytes more bad some h.0,
       gives_by (received_words lanes bytes) (received_words lanes (bytes ++ more)) place.clock place.clock
-          (λ plain. AreSets link.enhanced plain sets) (front_same lanes bytes more place.clock some (omega (arith, l))) h.1,
+          (λ plain. AreSets link.enhanced plain sets)
+          (front_same lanes bytes more place.clock some (omega (arith, l))) h.1,
     )
 up_to_stays link bytes more (set_fault bad) sets differs (clocks, set, g, r) =
     let on = gives_on (lanes_count link.lanes) bytes more clocks

@@ -1,10 +1,10 @@
 -- The words of bytes, as bytes are added.
-use Rattle.std.proofs.Common.{◌≡◌, ℕ, zero, suc, ◌<◌, ◌≤◌, ◌+◌, ◌-◌, ◌*◌, ◌/◌, inl, inr, List, [], ◌∷◌, ◌++◌, length}
-use Rattle.std.proofs.Common.{take, drop, map, get_or, refl, sym, ap, subst, ◌∙◌, arith, length-append, length-take}
+use Rattle.std.proofs.Common.{◌≡◌, ℕ, zero, suc, ◌<◌, ◌≤◌, ◌+◌, ◌*◌, ◌/◌, List, [], ◌∷◌, ◌++◌, length}
+use Rattle.std.proofs.Common.{take, drop, map, refl, sym, ap, subst, ◌∙◌, arith, length-append}
 use Rattle.std.specs.List.{range_with_len}
-use Rattle.std.proofs.lemmas.Bool.{cases_lt}
 use Rattle.std.proofs.lemmas.List.{ext_get_or, get_or_append_left, get_or-map, length-map, take-append-drop}
-use Rattle.std.proofs.lemmas.List.FromFn.{get_or-map-range_with_len, length-map-range_with_len, take-map-range_with_len}
+use Rattle.std.proofs.lemmas.List.FromFn.{get_or-map-range_with_len, length-map-range_with_len}
+use Rattle.std.proofs.lemmas.List.FromFn.{take-map-range_with_len}
 use Rattle.std.proofs.lemmas.Nat.{le-div}
 use Rattle.std.proofs.Math.Nat.{mul-le-mul, mul-div-le}
 use Rattle.dpx_base.specs.Capture.{word_in, words_in}
@@ -14,10 +14,7 @@ use Rattle.dpx_base.specs.declared.lanes.Lanes.{Lanes}
 use Rattle.dpx_base.specs.declared.lanes.Lanes.TheVariants.{One, Two, Four}
 use Rattle.dpx_base.specs.declared.sym.Sym.{Sym}
 use Rattle.dpx_lane.specs.Team.{joined}
-use Rattle.dpx_align.specs.Aligner.{IsFirstFault}
 use Rattle.dpx_align.specs.Faults.{NoFault, Symbols, cut}
-use Rattle.dpx_align.proofs.FirstFaults.{first_stays}
-use Rattle.dpx_align.proofs.Teams.{cut_all}
 use Rattle.dpx_reception.specs.Bytes.{clocks_in, received_words}
 use Rattle.dpx_reception.specs.Reception.{Gives}
 

@@ -1,5 +1,9 @@
+pub mod DueStays
 pub mod FaultsStay
+pub mod FramesGo
+pub mod FramesStay
 pub mod Grown
+pub mod OneLock
 pub mod OneReception
 pub mod SentCaptures
 pub mod SentFrames

@@ -1,9 +1,10 @@
 -- What is received of bytes is one.
-use Rattle.std.proofs.Common.{◌≡◌, ℕ, zero, suc, ◌<◌, ◌≤◌, ◌+◌, ◌⊎◌, inl, inr, List, [], ◌∷◌, ◌++◌, length, take, drop, map}
+use Rattle.std.proofs.Common.{◌≡◌, ℕ, suc, ◌<◌, ◌≤◌, ◌⊎◌, inl, inr, List, [], ◌∷◌, ◌++◌, length, take, drop, map}
 use Rattle.std.proofs.Common.{refl, sym, ap, subst, ◌∙◌, arith, append-nil, length-append, Bool, Option, Some, None}
 use Rattle.std.specs.Prelude.{slice_get}
 use Rattle.std.proofs.lemmas.Bool.{cases_lt}
-use Rattle.std.proofs.lemmas.List.{get_or-map, length-map, length-take, take_all, take_at, take-append-le, take-append-drop}
+use Rattle.std.proofs.lemmas.List.{get_or-map, length-map, length-take, take_all, take_at, take-append-le}
+use Rattle.std.proofs.lemmas.List.{take-append-drop}
 use Rattle.std.proofs.lemmas.Option.{same_Some}
 use Rattle.dpx_base.specs.Lanes.{lanes_count}
 use Rattle.dpx_base.specs.Words.{words_of, BadAt, LaneSymbols}
@@ -20,7 +21,7 @@ use Rattle.dpx_align.proofs.Once.{lock_once}
 use Rattle.dpx_align.proofs.OneFault.{faults_are_one, symbols_are_one}
 use Rattle.dpx_align.proofs.SetsStay.{sets_stay}
 use Rattle.dpx_align.proofs.Teams.{cut_all}
-use Rattle.dpx_grammar.specs.Accepted.{Frame, Receives, IsAccepted}
+use Rattle.dpx_grammar.specs.Accepted.{Receives, IsAccepted}
 use Rattle.dpx_grammar.proofs.Prefixes.{fronts_are_accepted}
 use Rattle.dpx_grammar.proofs.Unique.{is_one}
 use Rattle.dpx_parse.proofs.OneReason.{one_reason}
@@ -96,7 +97,7 @@ set_on enhanced words n c front plain s set l h k o =
     (sets_stay enhanced first rest s set
     (subst (λ (x : List (List Sym)). SetOf (sr_group enhanced) x s set) e o))
 
-first_on : (enhanced : Bool) (words : List (List ℕ)) (n c : ℕ) (front plain sets : List (List Sym)) → n ≤ c
+pub first_on : (enhanced : Bool) (words : List (List ℕ)) (n c : ℕ) (front plain sets : List (List Sym)) → n ≤ c
     → Symbols (cut n words) front → Symbols (cut c words) plain → AreFirstSets enhanced front sets
     → AreFirstSets enhanced plain sets
 first_on enhanced words n c front plain sets l h k a s set e =
@@ -104,7 +105,7 @@ first_on enhanced words n c front plain sets l h k a s set e =
 
 -- ---- lists that go on as others
 
-same_front : (xs ys : List (List Sym))
+pub same_front : (xs ys : List (List Sym))
     → ((s : ℕ) (x : List Sym) → slice_get xs s ≡ Some x → slice_get ys s ≡ Some x)
     → (rest : List (List Sym)) × (ys ≡ xs ++ rest)
 same_front [] ys h = (ys, refl)
@@ -116,10 +117,10 @@ same_front (x ∷ xs) (y ∷ ys) h =
     let f : y ≡ x = same_Some y x (h 0 x refl) in
     (r.0, ap (λ z. z ∷ ys) f ∙ ap (λ zs. x ∷ zs) r.1)
 
-abbrev GoesOn : (xs ys : List (List Sym)) → Type 0
+abbrev pub GoesOn : (xs ys : List (List Sym)) → Type 0
 GoesOn xs ys = (rest : List (List Sym)) × (ys ≡ xs ++ rest)
 
-either_goes_on : (xs ys : List (List Sym))
+pub either_goes_on : (xs ys : List (List Sym))
     → ((s : ℕ) (x y : List Sym) → slice_get xs s ≡ Some x → slice_get ys s ≡ Some y → x ≡ y)
     → GoesOn xs ys ⊎ GoesOn ys xs
 either_goes_on [] ys h = inl (ys, refl)
@@ -132,7 +133,7 @@ either_goes_on (x ∷ xs) (y ∷ ys) h =
     ]
 
 -- what goes on as all but the last is those, or they go on as it
-all_or_less : (u ys : List (List Sym)) (b : List Sym) → GoesOn u (ys ++ b ∷ []) → (ys ++ b ∷ [] ≡ u) ⊎ GoesOn u ys
+pub all_or_less : (u ys : List (List Sym)) (b : List Sym) → GoesOn u (ys ++ b ∷ []) → (ys ++ b ∷ [] ≡ u) ⊎ GoesOn u ys
 all_or_less u ys b (rest, e) =
     let v = ys ++ b ∷ [] in
     let long = length-append ys (b ∷ []) in
@@ -141,8 +142,11 @@ all_or_less u ys b (rest, e) =
       | inl l ↦ inl (sym (take_all (length u) v (omega (arith, l, long))) ∙ front)
       | inr l ↦
           let same : take (length u) ys ≡ u = sym (take-append-le (length u) ys (b ∷ []) l) ∙ front in
-          inr (drop (length u) ys, sym (take-append-drop (length u) ys)
-          ∙ ap (λ x. x ++ drop (length u) ys) same)
+          inr (
+            drop (length u) ys,
+            sym (take-append-drop (length u) ys)
+                ∙ ap (λ x. x ++ drop (length u) ys) same,
+          )
     ]
 
 last_once : (xs ys : List (List Sym)) (a b : List Sym) → xs ++ a ∷ [] ≡ ys ++ b ∷ [] → (xs ≡ ys) × (a ≡ b)
@@ -159,7 +163,7 @@ last_once (x ∷ xs) (y ∷ ys) a b e =
 
 -- ---- faults
 
-accepted_front : (link : Link) (u all : List (List Sym)) → GoesOn u all
+pub accepted_front : (link : Link) (u all : List (List Sym)) → GoesOn u all
     → IsAccepted link.enhanced (lanes_count link.lanes) all → IsAccepted link.enhanced (lanes_count link.lanes) u
 accepted_front link u all (rest, e) h =
     fronts_are_accepted link.enhanced link.lanes u rest
@@ -177,7 +181,7 @@ none_refused link words n c all sets set bad l g accepted k r =
     r.fault.fault (accepted_front link (sets ++ set ∷ []) all on accepted)
 
 -- the first clocks without a bad word end before the first one
-clocks_before : (words : List (List ℕ)) (bad : AlignBad) (c : ℕ) → IsFirstWordFault words bad
+pub clocks_before : (words : List (List ℕ)) (bad : AlignBad) (c : ℕ) → IsFirstWordFault words bad
     → NoFault (cut c words) → c ≤ (place_of bad).clock
 clocks_before words bad c f none =
     let clock = (place_of bad).clock in
@@ -195,14 +199,14 @@ clocks_before words bad c f none =
       | inr l ↦ l
     ]
 
-abbrev Long : List (List ℕ) → ℕ → Type 0
+abbrev pub Long : List (List ℕ) → ℕ → Type 0
 Long words n = (lane : ℕ) → lane < length words → length (words_of words lane) ≡ n
 
 whole : (words : List (List ℕ)) (n c : ℕ) → Long words n → n ≤ c → cut c words ≡ words
 whole words n c long l = cut_all c words (λ lane k. omega (arith, l, long lane k))
 
 -- clocks past the last one give what all give
-within_all : (words : List (List ℕ)) (n c : ℕ) (have : (plain : List (List Sym)) → Type 0) → Long words n
+pub within_all : (words : List (List ℕ)) (n c : ℕ) (have : (plain : List (List Sym)) → Type 0) → Long words n
     → Gives words c have → (fewer : ℕ) × (fewer ≤ n) × Gives words fewer have
 within_all words n c have long g =
     elim (cases_lt n c) [
@@ -315,7 +319,8 @@ up_to_once link words n (word_fault bad) no_fault xs ys long h p k q =
     absurd (no_word words n bad long k.no_fault h.0)
 up_to_once link words n (word_fault bad) (word_fault other) xs ys long h p k q =
     let e : bad ≡ other = faults_are_one words bad other h.0 k.0 in
-    let own = subst (λ (x : AlignBad). Gives words (place_of x).clock (λ plain. AreSets link.enhanced plain xs)) e h.1 in
+    let own = subst (λ (x : AlignBad). Gives words (place_of x).clock (λ plain. AreSets link.enhanced plain xs))
+    e h.1 in
     (ap word_fault e, sets_once link.enhanced words (place_of other).clock xs ys own k.1)
 up_to_once link words n (word_fault bad) (set_fault other) xs ys long h p k q =
     absurd (word_and_refused link words n bad xs ys other h p k)
@@ -326,10 +331,12 @@ up_to_once link words n (set_fault bad) (word_fault other) xs ys long h p k q =
 up_to_once link words n (set_fault bad) (set_fault other) xs ys long (c, a, g, r) p (d, b, k, s) q =
     elim (cases_lt c d) [
       | inl l ↦ refused_once link words c d xs ys a b bad other (omega (arith, l)) g k r s
-      | inr l ↦ swapped (set_fault other) (set_fault bad) ys xs (refused_once link words d c ys xs b a other bad l k g s r)
+      | inr l ↦
+          swapped (set_fault other) (set_fault bad) ys xs
+          (refused_once link words d c ys xs b a other bad l k g s r)
     ]
 
-received_even : (lanes : ℕ) (bytes : List ℕ) → Long (received_words lanes bytes) (clocks_in lanes bytes)
+pub received_even : (lanes : ℕ) (bytes : List ℕ) → Long (received_words lanes bytes) (clocks_in lanes bytes)
 received_even lanes bytes lane l = received_long lanes bytes lane (omega (arith, l, received_number lanes bytes))
 
 pub one_reception : IsOneReception
@@ -340,16 +347,3 @@ one_reception link bytes fault other frames others tail end a b =
     let own = subst (λ (x : List (List Sym)). Receives link.enhanced lanes x frames tail) s.1 a.accepted in
     let r = is_one link.enhanced link.lanes b.sets frames others tail end own b.accepted in
     (s.0, r.0, r.1)
-
-lock_is_one : (enhanced : Bool) (plain : List (List Sym)) (lock other : Option ℕ) → LockIs enhanced plain lock
-    → LockIs enhanced plain other → lock ≡ other
-lock_is_one enhanced plain None None h k = refl
-lock_is_one enhanced plain None (Some m) h k = absurd (h m k)
-lock_is_one enhanced plain (Some m) None h k = absurd (k m h)
-lock_is_one enhanced plain (Some m) (Some n) h k = ap Some (lock_once (sr_group enhanced) plain m n h k)
-
-pub one_lock : IsOneLock
-one_lock link bytes lock other a b =
-    let e = symbols_are_one (received_words (lanes_count link.lanes) bytes) a.plain b.plain a.symbols b.symbols in
-    lock_is_one link.enhanced b.plain lock other
-    (subst (λ (x : List (List Sym)). LockIs link.enhanced x lock) e a.lock_is) b.lock_is

@@ -1,8 +1,8 @@
 -- A capture is received as the frames that were sent.
 use Rattle.std.proofs.Common.{◌≡◌, ℕ, zero, suc, ◌<◌, ◌≤◌, ◌+◌, ◌-◌, ◌*◌, ◌/◌, ◌%◌, Bool, true, false, List, [], ◌∷◌}
-use Rattle.std.proofs.Common.{◌++◌, length, map, drop, replicate, get_or, refl, sym, ap, subst, ◌∙◌, arith, Some}
+use Rattle.std.proofs.Common.{◌++◌, length, map, drop, replicate, get_or, refl, sym, ap, subst, ◌∙◌, arith}
 use Rattle.std.proofs.Common.{length-append}
-use Rattle.std.specs.List.{AllByRecursion, range_with_len}
+use Rattle.std.specs.List.{AllByRecursion}
 use Rattle.std.proofs.lemmas.List.{length-map, length-replicate, get_or-map, get_or-replicate}
 use Rattle.std.proofs.lemmas.List.FromFn.{length-map-range_with_len}
 use Rattle.std.proofs.lemmas.Nat.{div-mul-add, mod-mul-add}
@@ -26,15 +26,15 @@ use Rattle.dpx_align.proofs.SentSets.{received}
 use Rattle.dpx_align.proofs.SentThere.{symbols_there}
 use Rattle.dpx_align.proofs.Teams.{cut_all}
 use Rattle.dpx_grammar.specs.Parts.{data_set, group_sets}
-use Rattle.dpx_inversion.specs.Laws.{AreWhole, IsSet, sent_frames}
+use Rattle.dpx_inversion.specs.Laws.{IsSet, sent_frames}
 use Rattle.dpx_inversion.specs.Source.{plan_lanes, zero_row}
 use Rattle.dpx_inversion.proofs.Given.{inverts, starts_with_group}
 use Rattle.dpx_inversion.proofs.Received.{is_received}
 use Rattle.dpx_inversion.proofs.Sendable.{sets_can_be_sent}
 use Rattle.dpx_reception.specs.Bytes.{clocks_in, left_over, received_words}
 use Rattle.dpx_reception.specs.Due.{pixel_records}
-use Rattle.dpx_reception.specs.Laws.{SentIsReceived, CapturesAreReceived}
-use Rattle.dpx_reception.specs.Reception.{AreSets, Gives, Reception, Locks, no_fault}
+use Rattle.dpx_reception.specs.Laws.{CapturesAreReceived}
+use Rattle.dpx_reception.specs.Reception.{AreSets, Gives}
 use Rattle.dpx_reception.proofs.Grown.{some_lanes}
 use Rattle.dpx_reception.proofs.SentFrames.{frame_records, sent_text, sent_whole, sent_lines}
 use Rattle.dpx_reception.proofs.WordsBack.{length-word_bytes, words_back}
@@ -190,7 +190,8 @@ captures_are_received p pixels bytes plan whole c =
     let lanes = lanes_count p.link.lanes in
     let clocks = capture_clocks p in
     let b = body_is p pixels bytes c in
-    let n = clocks_are lanes clocks bytes (some_lanes p.link.lanes) (ap length b ∙ length-word_bytes lanes clocks c.words) in
+    let n = clocks_are lanes clocks bytes (some_lanes p.link.lanes)
+    (ap length b ∙ length-word_bytes lanes clocks c.words) in
     let words : received_words lanes bytes ≡ c.words =
     words_are lanes clocks bytes c.words n.0 b
     (words_back lanes clocks c.words c.sent.size (capture_long p pixels c.words c.sent)) in

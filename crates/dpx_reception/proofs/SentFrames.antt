@@ -1,5 +1,6 @@
 -- What is due of frames that were sent.
-use Rattle.std.proofs.Common.{◌≡◌, ◌==◌, ℕ, zero, suc, ◌+◌, ◌*◌, Bool, true, List, [], ◌∷◌, ◌++◌, length, map, replicate}
+use Rattle.std.proofs.Common.{◌≡◌, ◌==◌, ℕ, zero, suc, ◌+◌, ◌*◌, Bool, true, List, [], ◌∷◌, ◌++◌, length, map}
+use Rattle.std.proofs.Common.{replicate}
 use Rattle.std.proofs.Common.{refl, sym, ap, ◌∙◌, arith, cond}
 use Rattle.std.specs.List.{range_with_len, flat_map, filter, sum_by}
 use Rattle.std.proofs.lemmas.Bool.{eq-eqb}
@@ -15,7 +16,8 @@ use Rattle.dpx_msa.specs.Reading.{attributes_of}
 use Rattle.dpx_msa.specs.declared.attributes.Attributes.{Attributes}
 use Rattle.dpx_reception.specs.Due.{pixel_records, records_due, attributes_line, lines_due, whole_frames, whole_lines}
 
-line_records : (lines : List (List Pixel)) → flat_map pixel_records lines ≡ pixel_records (flat_map (λ line. line) lines)
+line_records : (lines : List (List Pixel))
+    → flat_map pixel_records lines ≡ pixel_records (flat_map (λ line. line) lines)
 unfolding pixel_records
 line_records [] = refl
 line_records (line ∷ lines) =

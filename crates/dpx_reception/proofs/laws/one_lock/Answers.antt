@@ -1,4 +1,4 @@
-use Rattle.dpx_reception.proofs.OneReception as laws
+use Rattle.dpx_reception.proofs.OneLock as laws
 use Rattle.dpx_reception.proofs.laws.one_lock.Goals as goal
 
 pub returns : goal.returns
