@@ -77,7 +77,8 @@ latest_in : (group : List Sym) (plain : List (List Sym)) (at : ℕ) → 0 < leng
     → Latest group plain at (length plain)
 latest_in group plain at some starts =
     let e : suc (length plain - 1) ≡ length plain = omega (arith, some) in
-    subst (λ (n : ℕ). Latest group plain at n) e (latest_of group plain at (length plain - 1) starts (omega (arith, some)))
+    subst (λ (n : ℕ). Latest group plain at n) e
+    (latest_of group plain at (length plain - 1) starts (omega (arith, some)))
 
 -- each lane's symbol of a set stands before the end of the lane
 last_within : (group : List Sym) (plain : List (List Sym)) (s : ℕ) (set : List Sym) (k : SetOf group plain s set)

@@ -25,7 +25,8 @@ use Rattle.dpx_align.specs.declared.aligner.Aligner.{Aligner}
 use Rattle.dpx_align.proofs.FedOn.{WentOn, symbols_on}
 use Rattle.dpx_align.proofs.FirstFaults.{no_fault_on, fault_on, first_fault_on, first_stays, not_before, place_is}
 use Rattle.dpx_align.proofs.FirstFaults.{not_sooner, no_other}
-use Rattle.dpx_align.proofs.Teams.{read_of, read_sizes, done_sizes, AllLong, AtMost, words_of-joined, length-joined, cut_all}
+use Rattle.dpx_align.proofs.Teams.{read_of, read_sizes, done_sizes, AllLong, AtMost, words_of-joined}
+use Rattle.dpx_align.proofs.Teams.{length-joined, cut_all}
 use Rattle.dpx_align.proofs.Teams.{cut_on}
 
 read_none : (s : LaneRx) → HasRead s [] [] → good_clocks s ≤ 0

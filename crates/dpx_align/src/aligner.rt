@@ -37,8 +37,8 @@ fn clocks_before(clock: u64, fed: u64, next: usize) -> usize
 }
 
 impl Aligner {
-    ghost use Rattle.dpx_align.specs.Aligner.{WasFed, CanFeed, Answers, FeedsAfter, IsWide, Lessens, EndsAs, given_after};
-    ghost use Rattle.dpx_align.specs.Aligner.{lanes_of, is_enhanced, clocks_fed, sets_given};
+    ghost use Rattle.dpx_align.specs.Aligner.{WasFed, CanFeed, Answers, FeedsAfter, IsWide, Lessens, EndsAs};
+    ghost use Rattle.dpx_align.specs.Aligner.{given_after, lanes_of, is_enhanced, clocks_fed, sets_given};
 
     /// Takes all its memory.
     pub fn new(alloc: Global, link: Link) -> Result<Aligner, Memory>

@@ -10,8 +10,8 @@ pub fn first_fault_stays()
     ensures symbols { SymbolsAreOne }
 {}
 
-/// A number has one set, which stays as clocks are added. It is complete at one clock; a set of the clocks before a word
-/// fault at a clock before that fault's.
+/// A number has one set, which stays as clocks are added. It is complete at one clock; a set of the clocks before a
+/// word fault at a clock before that fault's.
 pub fn sets_come_before_the_fault()
     ensures set { SetsAreOne }
     ensures stays { SetsStay }

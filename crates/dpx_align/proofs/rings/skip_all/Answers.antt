@@ -9,4 +9,5 @@ loop-ring-preserved c =
     ap (λ (ring : List Sym). set c.loop-ring.rings c.loop-ring.ring-index ring)
     (c.skip.ensures ∙ ap f (sym c.ring-item.is))
     ∙ map_over_more f
-    c.args.rings.now c.loop-ring.rings c.loop-ring.ring-index c.ring-item.result c.loop-ring-test.true c.loop-ring.invariant c.ring-item.is
+    c.args.rings.now c.loop-ring.rings c.loop-ring.ring-index c.ring-item.result c.loop-ring-test.true
+    c.loop-ring.invariant c.ring-item.is

@@ -21,7 +21,8 @@ invariant_of-self c =
       level = subst (λ (x : List (List Sym)). Level x) (sym k) (level_drop old c.requires.wait c.args.self.now.level);
       count = subst (λ (x : List (List Sym)). c.args.self.now.given + 1 + length
           (slice_index_or x 0 []) ≤ c.args.self.now.taken) (sym k)
-          (count_drop old c.args.self.now.given c.args.self.now.taken c.args.self.now.lanes.0 c.requires.wait c.args.self.now.count);
+          (count_drop old c.args.self.now.given c.args.self.now.taken c.args.self.now.lanes.0 c.requires.wait
+          c.args.self.now.count);
       few = c.args.self.now.few;
     }
 
@@ -38,4 +39,5 @@ returns-clause-state c lanes h =
     subst (λ (x : List (List Sym)). Holds c.args.self.now.locked (sr_group c.args.self.now.enhanced) lanes x
     (c.args.self.now.given + 1)) (sym c.take_heads-set.ensures.rest)
     (ready_on c.args.self.now.locked
-    (sr_group c.args.self.now.enhanced) lanes c.args.self.now.rings c.args.self.now.given c.requires.locked c.requires.wait h)
+    (sr_group c.args.self.now.enhanced) lanes c.args.self.now.rings c.args.self.now.given c.requires.locked
+    c.requires.wait h)

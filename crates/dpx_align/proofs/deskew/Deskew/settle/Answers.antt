@@ -31,12 +31,14 @@ invariant_of-self c =
 
 pub returns-then-not-self-clause-state : goal.returns-then-not-self-clause-state
 returns-then-not-self-clause-state c lanes h =
-    settled c.args.self.now.locked c.args.self.now.enhanced c.seek-self.result c.sr_group.result.now lanes c.args.self.now.rings c.seek-self.new.self c.args.self.now.given
+    settled c.args.self.now.locked c.args.self.now.enhanced c.seek-self.result c.sr_group.result.now lanes
+    c.args.self.now.rings c.seek-self.new.self c.args.self.now.given
     c.if-not-self.true c.sr_group.ensures c.args.self.now.lanes.0 c.seek-self.ensures.found c.seek-self.ensures.kept h
 
 pub returns-then-not-self-clause-none : goal.returns-then-not-self-clause-none
 returns-then-not-self-clause-none c f lanes h m k =
-    unlocked c.args.self.now.locked c.args.self.now.enhanced c.sr_group.result.now lanes c.args.self.now.rings c.args.self.now.given
+    unlocked c.args.self.now.locked c.args.self.now.enhanced c.sr_group.result.now lanes c.args.self.now.rings
+    c.args.self.now.given
     c.if-not-self.true c.sr_group.ensures c.args.self.now.lanes.0 (sym c.seek-self.ensures.found ∙ f) h m k
 
 pub returns-then-not-self-clause-short : goal.returns-then-not-self-clause-short
