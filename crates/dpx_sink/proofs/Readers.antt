@@ -137,7 +137,10 @@ pub all_symbols : (words : List (List ℕ)) (plain : List (List Sym)) → NoFaul
 all_symbols words plain n (inl h) = h.1
 all_symbols words plain n (inr (clock, lane, f, h)) = absurd (n lane clock f.within f.bad)
 
-pub no_set_there : (s : ℕ) (set : List Sym) → slice_get {A = List Sym} [] s ≡ Some set → ⊥
+abbrev no_sets : List (List Sym)
+no_sets = []
+
+pub no_set_there : (s : ℕ) (set : List Sym) → slice_get no_sets s ≡ Some set → ⊥
 no_set_there s set e = cc
 
 -- a parser that took nothing

@@ -23,22 +23,32 @@ no_symbols (suc n) (suc lane) = no_symbols n lane
 pub nothing_bad : (n : ℕ) → NoFault (replicate n [])
 nothing_bad n lane clock l bad = absurd (omega (arith, bad.within, ap length (no_words n lane)))
 
+abbrev empty_sets : List (List Sym)
+empty_sets = []
+
+abbrev empty_lane : List Sym
+empty_lane = []
+
+no_set : (s : ℕ) (set : List Sym) → slice_get empty_sets s ≡ Some set → ⊥
+no_set s set e = cc
+
+no_symbol : (k : ℕ) (x : Sym) → slice_get empty_lane k ≡ Some x → ⊥
+no_symbol k x e = cc
+
+never : (xs : List Sym) (k : ℕ) (x : Sym) → xs ≡ [] → slice_get xs k ≡ Some x → ⊥
+never xs k x e h = no_symbol k x (sym (ap (λ ys. slice_get ys k) e) ∙ h)
+
+abbrev empty_plain : ℕ → List (List Sym)
+empty_plain n = replicate n []
+
 pub no_sets : (enhanced : Bool) (n : ℕ) → 0 < n → AreSets enhanced (replicate n []) []
 no_sets enhanced n some = record {
-  there = λ s set e. absurd (none s set e);
+  there = λ s set e. absurd (no_set s set e);
   no_others = λ s set h.
-      let l : 0 < length (replicate {A = List Sym} n []) = omega (arith, some, length-replicate {A = List Sym} n []) in
+      let l : 0 < length (empty_plain n) = omega (arith, some, length-replicate {A = List Sym} n []) in
       let o = h.symbols 0 fill l in
-      absurd (never (lane_of (replicate n []) 0) (o.start + s) _ (no_symbols n 0) o.there);
+      absurd (never (lane_of (empty_plain n) 0) (o.start + s) _ (no_symbols n 0) o.there);
 }
-  where
-    none : (s : ℕ) (set : List Sym) → slice_get {A = List Sym} [] s ≡ Some set → ⊥
-    none s set e = cc
-    never : (xs : List Sym) (k : ℕ) (x : Sym) → xs ≡ [] → slice_get xs k ≡ Some x → ⊥
-    never xs k x e h = nothing k x (sym (ap (λ ys. slice_get ys k) e) ∙ h)
-      where
-        nothing : (k : ℕ) (x : Sym) → slice_get {A = Sym} [] k ≡ Some x → ⊥
-        nothing k x e = cc
 
 empty_rows : (f : ℕ → List ℕ) (a n : ℕ) → ((x : ℕ) → f x ≡ []) → map f (range_with_len a n) ≡ replicate n []
 empty_rows f a zero h = refl
