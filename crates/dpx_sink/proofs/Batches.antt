@@ -1,7 +1,10 @@
 -- A batch of whole clocks behind those before it: what was left of an unfinished clock, and a piece behind it.
-use Rattle.std.proofs.Common.{ℕ, ◌≡◌, ◌∙◌, ◌<◌, ◌+◌, ◌*◌, ◌/◌, ◌%◌, List, [], ◌++◌, length, sym, ap, subst, append_assoc, arith, refl}
-use Rattle.std.proofs.lemmas.List.{append-nil}
-use Rattle.std.proofs.lemmas.Nat.{div-add-mod'}
+use Rattle.std.proofs.Common.{ℕ, ◌≡◌, ◌∙◌, ◌<◌, ◌+◌, ◌*◌, ◌/◌, ◌%◌, List, [], ◌++◌, length, sym, ap, subst, append_assoc, arith, refl, Result, Ok, Err}
+use Rattle.std.specs.Prelude.{OnOk}
+use Rattle.std.proofs.Common.{◌∷◌, ◌-◌, get_or, take, drop}
+use Rattle.std.proofs.Math.Seq.{take-add}
+use Rattle.std.proofs.lemmas.List.{append-nil, take-append-drop, take_rest}
+use Rattle.std.proofs.lemmas.Nat.{div-add-mod', div-mul-add}
 use Rattle.dpx_base.specs.Capture.{words_in}
 use Rattle.dpx_base.specs.Lanes.{lanes_count}
 use Rattle.dpx_base.specs.declared.link.Link.{Link}
@@ -73,3 +76,49 @@ front_more link P bytes more h = record {
   whole = h.whole;
   there = h.there;
 }
+
+-- what holds of an answer
+pub on_ok : {T E P Q : Type 0} (r : Result T E) → (P → Q) → OnOk r P → OnOk r Q
+on_ok (Ok x) f h = f h
+on_ok (Err e) f h = tt
+
+-- the clocks fed, and what is left, are the bytes fed
+pub fed_on : (before now n wide left next fed more : ℕ) → now ≡ before + n → before * wide + left ≡ fed
+    → left + more ≡ n * wide + next → now * wide + next ≡ fed + more
+fed_on before now n wide left next fed more e f g =
+    let a : now * wide ≡ (before + n) * wide = ap (λ x. x * wide) e in
+    let s : (before + n) * wide ≡ before * wide + n * wide = omega arith in
+    omega (arith, a, s, f, g)
+
+pub one_clock : (wide : ℕ) → 0 < wide → wide / wide ≡ 1
+one_clock wide some =
+    let e : wide ≡ 1 * wide + 0 = omega arith in
+    ap (λ k. k / wide) e ∙ div-mul-add 1 wide 0 some
+
+pub first_byte : (bytes : List ℕ) → 0 < length bytes → get_or bytes 0 0 ∷ [] ≡ take 1 bytes
+first_byte [] lt = absurd (omega arith)
+first_byte (b ∷ bytes) lt = refl
+
+pub whole_of : (taken bytes : List ℕ) (n : ℕ) → (taken ++ take n bytes) ++ drop n bytes ≡ taken ++ bytes
+whole_of taken bytes n =
+    append_assoc taken (take n bytes) (drop n bytes) ∙ ap (λ xs. taken ++ xs) (take-append-drop n bytes)
+
+-- what stands in a front of some bytes stands in a front of all
+pub front_all : (link : Link) (P : List (List ℕ) → Type 0) (taken bytes : List ℕ) (n : ℕ)
+    → InFront link P (taken ++ take n bytes) → InFront link P (taken ++ bytes)
+front_all link P taken bytes n h =
+    subst (λ xs. InFront link P xs) (whole_of taken bytes n)
+    (front_more link P (taken ++ take n bytes) (drop n bytes) h)
+
+-- the bytes before a place, and then some from it on
+pub go_on : (taken bytes : List ℕ) (start n : ℕ)
+    → (taken ++ take start bytes) ++ take n (take (length bytes - start) (drop start bytes)) ≡ taken ++ take (start + n) bytes
+go_on taken bytes start n =
+    ap (λ xs. (taken ++ take start bytes) ++ take n xs) (take_rest bytes start)
+    ∙ (append_assoc taken (take start bytes) (take n (drop start bytes))
+    ∙ ap (λ xs. taken ++ xs) (sym (take-add start n bytes)))
+
+pub all_of : (taken bytes : List ℕ) (start : ℕ)
+    → (taken ++ take start bytes) ++ take (length bytes - start) (drop start bytes) ≡ taken ++ bytes
+all_of taken bytes start =
+    ap (λ xs. (taken ++ take start bytes) ++ xs) (take_rest bytes start) ∙ whole_of taken bytes start

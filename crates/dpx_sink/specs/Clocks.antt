@@ -22,6 +22,7 @@ framing_of link = record { enhanced = link.enhanced; lanes = link.lanes }
 pub record HasTaken (c : Clocks) (bytes records text : List ℕ) : Type 0 where
   pub done : List ℕ
   pub cut : IsCut (lanes_count c.link.lanes) bytes done c.left.items
+  pub fed : c.fed ≡ length bytes
   pub read : HasReadWhole (framing_of c.link) c.reader (received_words (lanes_count c.link.lanes) done) records text
 
 -- a front of the bytes ends as P says of its words

@@ -1,12 +1,13 @@
-use Rattle.std.proofs.Common.{◌≡◌, ◌∙◌, ◌<◌, ◌*◌, ◌/◌, ◌+◌, ◌++◌, ℕ, List, [], length, sym, ap, subst, arith}
+use Rattle.std.proofs.Common.{◌≡◌, ◌∙◌, ◌<◌, ◌*◌, ◌/◌, ◌+◌, ◌++◌, ℕ, List, [], length, sym, ap, subst, arith, length-append}
 use Rattle.std.proofs.lemmas.List.{append-nil}
+use Rattle.dpx_align.specs.Aligner.{clocks_fed}
 use Rattle.dpx_base.specs.Capture.{words_in}
 use Rattle.dpx_base.specs.Lanes.{lanes_count}
 use Rattle.dpx_lane.specs.Team.{joined}
 use Rattle.dpx_reception.specs.Bytes.{received_words}
 use Rattle.dpx_sink.specs.Clocks.{IsCut, framing_of}
 use Rattle.dpx_sink.specs.Reader.{HasRead, HasReadWhole, HasBadWord, HasBadSet, HasSome}
-use Rattle.dpx_sink.proofs.Batches.{batch_words, whole_clocks, has_read, cut_on, read_on, in_front}
+use Rattle.dpx_sink.proofs.Batches.{batch_words, whole_clocks, has_read, cut_on, read_on, in_front, on_ok, fed_on}
 use Rattle.dpx_sink.proofs.Writes.{went_map}
 use Rattle.dpx_sink.proofs.clocks.Clocks.take_whole.Goals as goal
 
@@ -29,6 +30,7 @@ returns-clause-went g c = λ bytes p l st.
       done = st.done ++ piece;
       cut = subst (λ xs. IsCut lanes (bytes ++ piece) (st.done ++ piece) xs) (sym c.requires.none)
           (cut_on link n bytes st.done [] piece cut whole);
+      fed = ap (λ k. k + length piece) st.fed ∙ sym (length-append bytes piece);
       read = read_on link n bytes st.done [] piece cut whole c.batch.new.self q m
           (subst (λ w. HasReadWhole f c.batch.new.self w q m) same h);
     })
@@ -42,4 +44,23 @@ returns-clause-went g c = λ bytes p l st.
     (has_read f c.args.self.now.reader words p l st.read))
 
 pub returns-clause-ready : goal.returns-clause-ready
-returns-clause-ready g c = ?
+returns-clause-ready g c =
+    let link = c.args.self.now.link in
+    let wide : ℕ = 2 * lanes_count link.lanes in
+    let piece : List ℕ = c.args.piece.now in
+    let ready = c.requires.ready in
+    let clocks : c.read_words.new.self.clocks ≡ length piece / wide =
+    ap (λ r. r.clocks) c.read_words.ensures ∙ ap (λ k. length piece / (2 * lanes_count k)) ready.rows in
+    let whole = whole_clocks (lanes_count link.lanes) piece c.requires.whole in
+    let left : length c.args.self.now.left.items ≡ 0 = ap length c.requires.none in
+    on_ok c.batch.result (λ rests. record {
+      agrees = c.batch.ensures.agrees (framing_of link) ready.agrees;
+      rows = c.batch.ensures.rows ∙ (ap (λ r. r.lanes) c.read_words.ensures ∙ ready.rows);
+      short = ready.short;
+      fed = fed_on (clocks_fed c.args.self.now.reader.aligner) (clocks_fed c.batch.new.self.aligner) (length piece / wide) wide
+          (length c.args.self.now.left.items) (length c.args.self.now.left.items) c.args.self.now.fed (length piece)
+          (c.batch.ensures.fed ∙ ap (λ k. clocks_fed c.args.self.now.reader.aligner + k) clocks) ready.fed
+          (omega (arith, whole, left));
+      few = c.requires.few;
+      rests = rests;
+    }) c.batch.ensures.rested
