@@ -14,3 +14,4 @@ pub mod Readers
 pub mod Cuts
 pub mod Starts
 pub mod Batches
+pub mod Frames
