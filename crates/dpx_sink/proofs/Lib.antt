@@ -1,0 +1,17 @@
+pub mod Transfers
+pub mod Texts
+pub mod Stores
+pub mod Onto
+pub mod Columns
+pub mod Turns
+pub mod Writes
+pub mod Events
+pub mod Fitting
+pub mod Tallies
+pub mod WholeLines
+pub mod Given
+pub mod Readers
+pub mod Cuts
+pub mod Starts
+pub mod Batches
+pub mod Frames
