@@ -3,7 +3,7 @@ use Rattle.std.proofs.Common.{ℕ, ◌≡◌, ◌∙◌, ◌<◌, ◌+◌, ◌*�
 use Rattle.std.specs.Prelude.{OnOk}
 use Rattle.std.proofs.Common.{◌∷◌, ◌-◌, get_or, take, drop}
 use Rattle.std.proofs.Math.Seq.{take-add}
-use Rattle.std.proofs.lemmas.List.{append-nil, take-append-drop, take_rest}
+use Rattle.std.proofs.lemmas.List.{take-append-drop, take_rest}
 use Rattle.std.proofs.lemmas.Nat.{div-add-mod', div-mul-add}
 use Rattle.dpx_base.specs.Capture.{words_in}
 use Rattle.dpx_base.specs.Lanes.{lanes_count}

@@ -1,7 +1,6 @@
 -- Pixels of a lane, symbol by symbol.
-use Rattle.std.proofs.Common.{ℕ, suc, ◌≡◌, ◌∙◌, ◌<◌, ◌≤◌, ◌+◌, ◌-◌, ◌*◌, ◌/◌, ◌%◌, List, [], ◌∷◌, get_or, take, Some, length-append, length, map, refl, sym, ap, arith}
+use Rattle.std.proofs.Common.{ℕ, suc, ◌≡◌, ◌∙◌, ◌<◌, ◌≤◌, ◌+◌, ◌-◌, ◌*◌, ◌/◌, ◌%◌, List, [], ◌∷◌, get_or, take, Some, length-append, length, refl, ap, arith}
 use Rattle.std.specs.Int.{bit_at}
-use Rattle.std.specs.List.{range_with_len}
 use Rattle.std.proofs.Math.Nat.{div-lt_iff_lt-mul, mul-le-mul_right}
 use Rattle.std.proofs.lemmas.Nat.{le-div, div-add-mod'}
 use Rattle.dpx_base.specs.Packing.{number_of}
@@ -11,7 +10,7 @@ use Rattle.dpx_base.specs.declared.pixel.Pixel.{Pixel}
 use Rattle.dpx_pack.proofs.Turns.{one_pixel_more}
 use Rattle.dpx_pack.specs.Lanes.{whole_pixel_count, pixel_completed}
 use Rattle.dpx_pack.specs.Positions.{span}
-use Rattle.dpx_sink.specs.Columns.{symbol_in, column}
+use Rattle.dpx_sink.specs.Columns.{symbol_in}
 
 -- a lane's symbols of a line's rows
 unfoldable pub lane_symbols : (rows : List (List ℕ)) (lane symbols : ℕ) → List ℕ

@@ -11,7 +11,6 @@ pub mod Tallies
 pub mod WholeLines
 pub mod Given
 pub mod Readers
-pub mod Cuts
 pub mod Starts
+pub mod Cuts
 pub mod Batches
-pub mod Frames

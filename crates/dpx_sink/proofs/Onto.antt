@@ -1,5 +1,5 @@
 -- Texts, one behind the other.
-use Rattle.std.proofs.Common.{ℕ, ◌≡◌, ◌∙◌, List, [], ◌++◌, ap}
+use Rattle.std.proofs.Common.{ℕ, ◌≡◌, ◌∙◌, List, ◌++◌, ap}
 
 -- a text behind others
 pub behind : (before now text all : List ℕ) → now ≡ before ++ text → before ≡ all → now ≡ all ++ text

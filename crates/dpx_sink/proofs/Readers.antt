@@ -1,5 +1,5 @@
 -- What a reader's parts stand for, step by step.
-use Rattle.std.proofs.Common.{ℕ, ◌≡◌, ◌∙◌, ◌+◌, Bool, List, [], ◌∷◌, ◌++◌, length, subst, sym, ap, arith, length-append, Option, Some, None, Ok, inl, inr, slice_get}
+use Rattle.std.proofs.Common.{ℕ, ◌≡◌, ◌∙◌, ◌+◌, Bool, List, [], ◌∷◌, ◌++◌, subst, sym, ap, arith, length-append, Option, Some, None, Ok, inl, inr, slice_get}
 use Rattle.dpx_align.specs.Aligner.{WasFed, IsFaultOf, CountedTo, Answers, NoSet, sets_given, given_after, place_of}
 use Rattle.dpx_align.specs.Aligner.{is_enhanced, lanes_of as aligner_lanes}
 use Rattle.dpx_align.specs.declared.step.Step.{Step}
@@ -21,7 +21,7 @@ use Rattle.dpx_parse.specs.declared.parser.Parser.{Parser}
 use Rattle.dpx_parse.proofs.Reading.{no_fault}
 use Rattle.dpx_parse.specs.declared.bad.ParseBad.{ParseBad}
 use Rattle.dpx_parse.specs.declared.event.Event.{Event}
-use Rattle.dpx_reception.specs.Reception.{AreSets, AreFirstSets}
+use Rattle.dpx_reception.specs.Reception.{AreSets}
 use Rattle.dpx_sink.specs.Reader.{Framing, Agrees, HasGiven}
 use Rattle.dpx_sink.specs.declared.reader.Reader.{Reader}
 use Rattle.dpx_sink.proofs.Given.{given_are_sets, first_snoc}

@@ -1,10 +1,10 @@
 -- Before any byte.
-use Rattle.std.proofs.Common.{ℕ, zero, suc, ◌≡◌, ◌∙◌, ◌<◌, ◌≤◌, ◌+◌, ◌/◌, ◌*◌, Bool, List, [], ◌∷◌, map, length, replicate, get_or, slice_get, Some, None, refl, sym, ap, subst, arith}
+use Rattle.std.proofs.Common.{ℕ, zero, suc, ◌≡◌, ◌∙◌, ◌<◌, ◌+◌, ◌/◌, ◌*◌, Bool, List, [], ◌∷◌, map, length, replicate, slice_get, Some, refl, sym, ap, arith}
 use Rattle.std.specs.List.{range_with_len}
 use Rattle.std.proofs.lemmas.List.{length-replicate}
 use Rattle.dpx_align.specs.Faults.{NoFault}
-use Rattle.dpx_align.specs.Lock.{sr_group, lane_of, SetOf}
-use Rattle.dpx_base.specs.Capture.{words_in, word_in}
+use Rattle.dpx_align.specs.Lock.{lane_of}
+use Rattle.dpx_base.specs.Capture.{words_in}
 use Rattle.dpx_base.specs.Words.{words_of, fill}
 use Rattle.dpx_base.specs.declared.sym.Sym.{Sym}
 use Rattle.dpx_reception.specs.Bytes.{clocks_in, received_words}

@@ -1,11 +1,11 @@
 -- Whole frames, as they are counted.
-use Rattle.std.proofs.Common.{ℕ, ◌≡◌, ◌∙◌, ◌≤◌, ◌+◌, Bool, true, false, Option, Some, None, refl, sym, ap, subst, arith, min}
+use Rattle.std.proofs.Common.{ℕ, ◌≡◌, ◌∙◌, ◌≤◌, ◌+◌, Bool, true, false, Option, Some, None, sym, ap, arith}
 use Rattle.std.specs.Prelude.{if◌then◌else◌, ◌==◌}
 use Rattle.std.proofs.lemmas.Bool.Decides.{nat_tests}
 use Rattle.dpx_msa.specs.declared.attributes.Attributes.{Attributes}
 use Rattle.dpx_parse.specs.Stands.{number_of}
-use Rattle.dpx_sink.specs.Line.{Holds, HoldsLine}
-use Rattle.dpx_sink.specs.Told.{Under, none, idle, live, Tally, frames_in, is_whole}
+use Rattle.dpx_sink.specs.Line.{Holds}
+use Rattle.dpx_sink.specs.Told.{Under, none, idle, live, Tally, frames_in}
 use Rattle.dpx_sink.specs.declared.lines.Lines.{Lines}
 
 same : (a b : Attributes) → ◌≡◌ {A = Option Attributes} (Some a) (Some b) → a ≡ b

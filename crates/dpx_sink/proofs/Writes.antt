@@ -1,5 +1,5 @@
 -- Writes, one behind the other.
-use Rattle.std.proofs.Common.{ℕ, ◌≡◌, ◌∙◌, List, [], ◌++◌, refl, sym, ap, subst, append_assoc, Option, Result, Ok, Err}
+use Rattle.std.proofs.Common.{ℕ, ◌∙◌, List, [], ◌++◌, sym, ap, subst, append_assoc, Option, Result, Ok, Err}
 use Rattle.std.proofs.lemmas.List.{append-nil}
 use Rattle.std.specs.Io.KnownBytes.{Appends}
 use Rattle.dpx_align.specs.declared.align_bad.AlignBad.{AlignBad}

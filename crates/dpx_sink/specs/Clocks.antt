@@ -1,5 +1,5 @@
 -- What a reader of bytes stands for, in whatever pieces they came.
-use Rattle.std.specs.Prelude.{ℕ, ◌≡◌, ◌<◌, ◌≤◌, ◌*◌, ◌+◌, ◌^◌, List, ◌++◌, length}
+use Rattle.std.specs.Prelude.{ℕ, ◌≡◌, ◌<◌, ◌*◌, ◌+◌, ◌^◌, List, ◌++◌, length}
 use Rattle.dpx_align.specs.Aligner.{CanFeed, clocks_fed}
 use Rattle.dpx_base.specs.Lanes.{lanes_count}
 use Rattle.dpx_base.specs.declared.link.Link.{Link}

@@ -1,6 +1,5 @@
 -- What the events of a list of sets give, event by event.
 use Rattle.std.specs.Prelude.{ℕ, ◌+◌, ◌==◌, Bool, false, if◌then◌else◌, List, [], ◌∷◌, ◌++◌}
-use Rattle.dpx_grammar.specs.Accepted.{pixels_in_rows}
 use Rattle.dpx_msa.specs.declared.attributes.Attributes.{Attributes as MsaAttributes}
 use Rattle.dpx_parse.specs.Received.{line_heard}
 use Rattle.dpx_parse.specs.declared.event.Event.{Event}

@@ -5,11 +5,10 @@ ghost use Rattle.dpx_base.specs.Lanes.{lanes_count};
 ghost use Rattle.dpx_parse.specs.declared.bad.ParseBad.{ParseBad};
 ghost use Rattle.dpx_sink.specs.Clocks.{HasTaken, InFront, IsReady, framing_of};
 ghost use Rattle.dpx_sink.specs.Reader.{HasBadWord, HasBadSet, HasSome};
-ghost use Rattle.dpx_sink.specs.Receiver.{EndsAs};
 ghost use Rattle.dpx_sink.specs.Writes.{Went, Calm, OneRose, sinks};
 
+use crate::RecvEnd;
 use crate::reader::Reader;
-use crate::{FinishEnd, Received, RecvEnd};
 use arrayvec::ArrayVec;
 use dpx_base::{Gate, Link, Memory, Sink, Workers};
 use dpx_lane::LaneRows;
@@ -210,21 +209,5 @@ impl Clocks {
             }
         }
         Ok(())
-    }
-
-    /// The end, where nothing was refused.
-    pub fn finish(&self) -> Result<Received, FinishEnd>
-        requires ready { IsReady self.now }
-        ensures ends { (taken p l : List ℕ) → HasTaken self.now taken p l → EndsAs self.now.link taken result }
-    {
-        let wide = 2 * u64::from(self.link.lanes.count());
-        let clock = self.fed / wide;
-        if self.fed % wide > 0 {
-            return Err(FinishEnd::Truncated {
-                clock,
-                bytes: (self.fed % wide) as u8,
-            });
-        }
-        self.reader.finish()
     }
 }

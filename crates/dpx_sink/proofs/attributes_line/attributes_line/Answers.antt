@@ -1,4 +1,4 @@
-use Rattle.std.proofs.Common.{◌≡◌, ◌∙◌, ◌++◌, List, ℕ, [], ap, sym, codes}
+use Rattle.std.proofs.Common.{◌≡◌, ◌∙◌, ◌++◌, List, ℕ, ap, codes}
 use Rattle.std.specs.Fmt.{decimal}
 use Rattle.dpx_base.specs.Mode.{depth_bits}
 use Rattle.dpx_reception.specs.Due.{attributes_line, bit}

@@ -1,6 +1,4 @@
-use Rattle.std.proofs.Common.{◌≡◌, ◌<◌, ◌≤◌, ◌+◌, ◌∙◌, [], ◌∷◌, ◌++◌, ℕ, List, sym, ap, arith, refl, take, length, get_or}
-use Rattle.std.proofs.Common.{length-append}
-use Rattle.dpx_base.specs.declared.pixel.Pixel.{Pixel}
+use Rattle.std.proofs.Common.{◌≡◌, ◌<◌, ◌≤◌, ◌+◌, ◌∙◌, [], ◌∷◌, ◌++◌, ℕ, List, sym, ap, arith, take, length, get_or}
 use Rattle.dpx_base.specs.Unpacking.{carried_pixel}
 use Rattle.dpx_pack.proofs.Spans.{span-none, span-same, length-span}
 use Rattle.dpx_pack.proofs.Turns.{pixels_of_first, first_and_next, no_pixel_more, one_pixel_more}

@@ -1,7 +1,7 @@
-use Rattle.std.proofs.Common.{◌≡◌, ◌∙◌, ◌*◌, ◌<◌, ℕ, List, [], sym, subst, refl, arith, ap, length}
+use Rattle.std.proofs.Common.{◌<◌, ℕ, [], sym, subst, refl, arith, ap, length}
 use Rattle.dpx_base.specs.Lanes.{lanes_count}
 use Rattle.dpx_reception.proofs.Grown.{some_lanes}
-use Rattle.dpx_sink.specs.Clocks.{IsCut, framing_of}
+use Rattle.dpx_sink.specs.Clocks.{framing_of}
 use Rattle.dpx_sink.specs.Reader.{HasReadWhole}
 use Rattle.dpx_sink.proofs.Starts.{no_received}
 use Rattle.dpx_sink.proofs.clocks.Clocks.new.Goals as goal

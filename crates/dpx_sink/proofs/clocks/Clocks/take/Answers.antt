@@ -1,4 +1,4 @@
-use Rattle.std.proofs.Common.{◌≡◌, ◌∙◌, ◌<◌, ◌≤◌, ◌+◌, ◌-◌, ◌++◌, ℕ, List, [], length, take, drop, sym, ap, subst, arith, length-drop, refl}
+use Rattle.std.proofs.Common.{◌≡◌, ◌∙◌, ◌++◌, ℕ, List, length, take, ap, subst, arith, length-drop, refl}
 use Rattle.std.proofs.lemmas.List.{append-nil, take_all, take_rest}
 use Rattle.dpx_sink.specs.Clocks.{InFront, framing_of}
 use Rattle.dpx_sink.specs.Reader.{HasBadWord, HasBadSet, HasSome}

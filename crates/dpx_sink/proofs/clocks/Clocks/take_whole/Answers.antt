@@ -1,12 +1,11 @@
-use Rattle.std.proofs.Common.{◌≡◌, ◌∙◌, ◌<◌, ◌*◌, ◌/◌, ◌+◌, ◌++◌, ℕ, List, [], length, sym, ap, subst, arith, length-append}
-use Rattle.std.proofs.lemmas.List.{append-nil}
+use Rattle.std.proofs.Common.{◌≡◌, ◌∙◌, ◌*◌, ◌/◌, ◌+◌, ◌++◌, ℕ, List, [], length, sym, ap, subst, arith, length-append}
 use Rattle.dpx_align.specs.Aligner.{clocks_fed}
 use Rattle.dpx_base.specs.Capture.{words_in}
 use Rattle.dpx_base.specs.Lanes.{lanes_count}
 use Rattle.dpx_lane.specs.Team.{joined}
 use Rattle.dpx_reception.specs.Bytes.{received_words}
 use Rattle.dpx_sink.specs.Clocks.{IsCut, framing_of}
-use Rattle.dpx_sink.specs.Reader.{HasRead, HasReadWhole, HasBadWord, HasBadSet, HasSome}
+use Rattle.dpx_sink.specs.Reader.{HasReadWhole, HasBadWord, HasBadSet, HasSome}
 use Rattle.dpx_sink.proofs.Batches.{batch_words, whole_clocks, has_read, cut_on, read_on, in_front, on_ok, fed_on}
 use Rattle.dpx_sink.proofs.Writes.{went_map}
 use Rattle.dpx_sink.proofs.clocks.Clocks.take_whole.Goals as goal

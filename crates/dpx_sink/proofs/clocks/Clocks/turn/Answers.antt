@@ -1,4 +1,4 @@
-use Rattle.std.proofs.Common.{◌≡◌, ◌∙◌, ◌<◌, ◌+◌, ◌*◌, ◌++◌, ◌∷◌, ℕ, List, [], length, get_or, take, drop, sym, ap, subst, arith}
+use Rattle.std.proofs.Common.{◌*◌, ◌++◌, ℕ, List, subst}
 use Rattle.dpx_sink.specs.Clocks.{HasTaken, InFront, framing_of}
 use Rattle.dpx_sink.specs.Reader.{HasBadWord, HasBadSet, HasSome}
 use Rattle.dpx_sink.proofs.Batches.{first_byte, front_all}

@@ -1,4 +1,4 @@
-use Rattle.std.proofs.Common.{◌≡◌, ◌<◌, ◌≤◌, arith}
+use Rattle.std.proofs.Common.{arith}
 use Rattle.dpx_sink.specs.Room.{line_room}
 use Rattle.dpx_sink.proofs.Stores.{stored, full}
 use Rattle.dpx_sink.proofs.line_store.LineStore.take.Goals as goal

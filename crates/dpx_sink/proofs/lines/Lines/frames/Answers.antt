@@ -1,4 +1,4 @@
-use Rattle.std.proofs.Common.{◌≡◌, ◌∙◌}
+use Rattle.std.proofs.Common.{◌∙◌}
 use Rattle.dpx_sink.proofs.Tallies.{one_more}
 use Rattle.dpx_sink.proofs.lines.Lines.frames.Goals as goal
 

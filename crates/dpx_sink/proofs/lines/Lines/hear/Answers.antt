@@ -1,4 +1,4 @@
-use Rattle.std.proofs.Common.{◌≡◌, subst}
+use Rattle.std.proofs.Common.{subst}
 use Rattle.dpx_sink.specs.Line.{Fits}
 use Rattle.dpx_sink.proofs.lines.Lines.hear.Goals as goal
 

@@ -1,4 +1,4 @@
-use Rattle.std.proofs.Common.{◌≡◌, ◌∙◌, ℕ, List, [], ◌∷◌, ◌++◌, true, false, sym}
+use Rattle.std.proofs.Common.{◌∙◌, sym}
 use Rattle.dpx_sink.proofs.Readers.{counted_fed, given_more, all_given, answer_set, answer_hungry}
 use Rattle.dpx_sink.proofs.Readers.{given_set, given_hungry, agrees_on}
 use Rattle.dpx_sink.proofs.Writes.{nothing_wrote, wrote_so, refused_map}

@@ -1,4 +1,3 @@
-use Rattle.std.proofs.Common.{◌≡◌, ◌∙◌, ℕ, List, sym}
 use Rattle.dpx_align.specs.Aligner.{is_enhanced}
 use Rattle.dpx_sink.specs.Reader.{Framing}
 use Rattle.dpx_lane.specs.Team.{joined}

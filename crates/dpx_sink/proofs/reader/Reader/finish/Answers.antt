@@ -1,7 +1,6 @@
-use Rattle.std.proofs.Common.{◌≡◌, ◌∙◌, ℕ, Bool, List, subst, sym}
+use Rattle.std.proofs.Common.{subst, sym}
 use Rattle.dpx_align.specs.Lock.{sr_group, IsLock}
-use Rattle.dpx_base.specs.declared.lanes.Lanes.{Lanes}
-use Rattle.dpx_parse.specs.Parser.{IsTail, lanes_of, enhanced_of}
+use Rattle.dpx_parse.specs.Parser.{IsTail}
 use Rattle.dpx_sink.proofs.Readers.{counted_fed, all_symbols, by_framing}
 use Rattle.dpx_sink.proofs.reader.Reader.finish.Goals as goal
 

@@ -1,4 +1,4 @@
-use Rattle.std.proofs.Common.{◌≡◌, ◌∙◌, ℕ, List, [], sym, refl, replicate}
+use Rattle.std.proofs.Common.{[], sym, refl, replicate}
 use Rattle.dpx_base.specs.Lanes.{lanes_count}
 use Rattle.dpx_reception.proofs.Grown.{some_lanes}
 use Rattle.dpx_sink.specs.Told.{none, no_tally}

@@ -1,4 +1,4 @@
-use Rattle.std.proofs.Common.{◌≡◌, ◌∙◌, ℕ, List, false, sym, refl}
+use Rattle.std.proofs.Common.{◌∙◌, sym, refl}
 use Rattle.dpx_sink.proofs.Writes.{nothing_wrote, wrote_so, wrote_on, went_on}
 use Rattle.dpx_sink.proofs.reader.Reader.pump.Goals as goal
 

@@ -1,4 +1,4 @@
-use Rattle.std.proofs.Common.{◌≡◌, ◌≤◌, ◌+◌, ℕ, false, List, cond}
+use Rattle.std.proofs.Common.{◌≡◌, ◌+◌, ℕ, false, List, cond}
 use Rattle.dpx_align.specs.Aligner.{CanFeed, clocks_fed, waiting}
 use Rattle.dpx_sink.specs.Reader.{Framing, Agrees, HasRead, HasReadWhole}
 use Rattle.dpx_sink.specs.Writes.{Wrote, Calm, sinks}

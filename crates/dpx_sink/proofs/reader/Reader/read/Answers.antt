@@ -1,11 +1,6 @@
-use Rattle.std.proofs.Common.{◌≡◌, ◌∙◌, ℕ, Bool, List, [], ◌∷◌, ◌++◌, subst, ap}
+use Rattle.std.proofs.Common.{[], ◌∷◌, ◌++◌, subst}
 use Rattle.std.specs.Io.KnownBytes.{Appends}
 use Rattle.dpx_base.specs.Lanes.{lanes_count}
-use Rattle.dpx_base.specs.declared.lanes.Lanes.{Lanes}
-use Rattle.dpx_parse.specs.FirstFault.{IsEvent}
-use Rattle.dpx_parse.specs.Parser.{Accepts, Refuses}
-use Rattle.dpx_parse.proofs.Accepting.{accepts_exactly}
-use Rattle.dpx_sink.specs.Reader.{HasGiven}
 use Rattle.dpx_sink.specs.Writes.{AppendsFront}
 use Rattle.dpx_sink.specs.Told.{after, records_of, text_of, tallied}
 use Rattle.dpx_sink.proofs.Events.{tell_on}

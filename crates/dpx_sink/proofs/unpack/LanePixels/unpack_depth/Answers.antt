@@ -1,4 +1,4 @@
-use Rattle.std.proofs.Common.{◌≡◌, ◌∙◌, ◌≤◌, ℕ, List, ap, sym, arith}
+use Rattle.std.proofs.Common.{◌∙◌, ap, arith}
 use Rattle.dpx_pack.specs.Lanes.{whole_pixel_count}
 use Rattle.dpx_reception.specs.Due.{pixel_records}
 use Rattle.dpx_sink.specs.Pixels.{pixels_of}
