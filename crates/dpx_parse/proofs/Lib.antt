@@ -18,3 +18,4 @@ pub mod Growing
 pub mod Hearing
 pub mod Tails
 pub mod OneReason
+pub mod OneEvent

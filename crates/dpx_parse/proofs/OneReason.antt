@@ -19,7 +19,7 @@ use Rattle.dpx_parse.proofs.Places.{CutRead, cut_read, cut_is, cancel}
 use Rattle.dpx_parse.proofs.Reading.{Parted, parted, tells_is}
 
 -- a list of sets tells its parts, and no others
-told_one : (l : Lanes) (e : Bool) (sets : List (List Sym)) (parts others : List Part)
+pub told_one : (l : Lanes) (e : Bool) (sets : List (List Sym)) (parts others : List Part)
     → Tells e (lanes_count l) sets parts → Tells e (lanes_count l) sets others → reverse parts ≡ reverse others
 told_one l e sets parts others t u =
     let x : CutRead e l sets t.whole t.next t.front = cut_read l e sets t.whole t.next t.front t.cut in

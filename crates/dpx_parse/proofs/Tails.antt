@@ -17,7 +17,7 @@ use Rattle.dpx_grammar.proofs.Runs.{Mode, opening, headed, blanking, showing}
 use Rattle.dpx_grammar.proofs.Sound.{front_of}
 use Rattle.dpx_parse.specs.Faults.{is_live}
 use Rattle.dpx_grammar.specs.Parts.{sets_of}
-use Rattle.dpx_parse.specs.Parser.{lanes_of, enhanced_of, StandsFor, IsTail}
+use Rattle.dpx_parse.specs.Parser.{lanes_of, enhanced_of, HasTaken, IsTail}
 use Rattle.dpx_parse.specs.Stands.{told, is_live_at, since, tail_at, number_of}
 use Rattle.dpx_parse.specs.declared.parser.Parser.{Parser}
 use Rattle.dpx_parse.proofs.Order.{Order, cut_order}
@@ -115,23 +115,23 @@ at_is e lanes whole (packet rows) h = rw h refl
 at_is e lanes whole active h = rw h refl
 at_is e lanes whole (fill rows) h = rw h (omega (arith, length-map rows row))
 
-pub tails : (p : Parser) (sets : List (List Sym)) → StandsFor p sets
+pub tails : (p : Parser) (sets : List (List Sym)) → HasTaken p sets
     → IsTail (enhanced_of p) (lanes_of p) sets p.core.unended
 tails p sets s frames tail r =
     let l : Lanes = lanes_of p in
     let c = cut_is (lanes_of p)
-    (enhanced_of p) sets s.core.whole r.whole s.core.place r.next r.front s.core.reads r.cut in
-    let parts : r.whole ++ begun r.next r.front ≡ s.core.whole ++ begun_of s.core.place =
-    ap (λ w. w ++ begun r.next r.front) c.0 ∙ ap (λ x. s.core.whole ++ x) (sym c.1) in
-    let joined : flat_map (sets_of (enhanced_of p) (lanes_count (lanes_of p))) s.core.whole ++ r.front
-    ≡ flat_map (sets_of (enhanced_of p) (lanes_count (lanes_of p))) s.core.whole ++ map
-    (token_set (lanes_count (lanes_of p))) (front_of s.core.place) =
+    (enhanced_of p) sets s.whole r.whole s.place r.next r.front s.reads r.cut in
+    let parts : r.whole ++ begun r.next r.front ≡ s.whole ++ begun_of s.place =
+    ap (λ w. w ++ begun r.next r.front) c.0 ∙ ap (λ x. s.whole ++ x) (sym c.1) in
+    let joined : flat_map (sets_of (enhanced_of p) (lanes_count (lanes_of p))) s.whole ++ r.front
+    ≡ flat_map (sets_of (enhanced_of p) (lanes_count (lanes_of p))) s.whole ++ map
+    (token_set (lanes_count (lanes_of p))) (front_of s.place) =
     ap (λ w. flat_map (sets_of (enhanced_of p) (lanes_count (lanes_of p))) w ++ r.front) (sym c.0) ∙ sym r.cut.joined
-    ∙ reads_joined (lanes_of p) (enhanced_of p) sets s.core.whole s.core.place s.core.reads in
-    let front : length r.front ≡ length (front_of s.core.place) =
-    ap length (cancel (flat_map (sets_of (enhanced_of p) (lanes_count (lanes_of p))) s.core.whole) r.front
-    (map (token_set (lanes_count (lanes_of p))) (front_of s.core.place)) joined)
-    ∙ length-map (front_of s.core.place) (token_set (lanes_count (lanes_of p))) in
+    ∙ reads_joined (lanes_of p) (enhanced_of p) sets s.whole s.place s.reads in
+    let front : length r.front ≡ length (front_of s.place) =
+    ap length (cancel (flat_map (sets_of (enhanced_of p) (lanes_count (lanes_of p))) s.whole) r.front
+    (map (token_set (lanes_count (lanes_of p))) (front_of s.place)) joined)
+    ∙ length-map (front_of s.place) (token_set (lanes_count (lanes_of p))) in
     let o : unfinished (enhanced_of p) (lanes_count (lanes_of p)) (r.whole ++ begun r.next r.front) (length r.front)
     ≡ tail_in (enhanced_of p) (lanes_count (lanes_of p)) 0 false (r.whole ++ begun r.next r.front)
     (length r.front) =
@@ -141,10 +141,10 @@ tails p sets s frames tail r =
     (length r.front) ≡ back_tail (enhanced_of p) (lanes_count (lanes_of p))
     (reverse (r.whole ++ begun r.next r.front) ++ []) (length r.front) =
     back_is (enhanced_of p) (lanes_count (lanes_of p)) [] (r.whole ++ begun r.next r.front) (length r.front) in
-    let t : tail ≡ tail_at (enhanced_of p) (lanes_count (lanes_of p)) (reverse s.core.whole) s.core.place =
+    let t : tail ≡ tail_at (enhanced_of p) (lanes_count (lanes_of p)) (reverse s.whole) s.place =
     r.tail_is ∙ o ∙ b ∙ ap (λ z. back_tail (enhanced_of p) (lanes_count (lanes_of p)) z (length r.front))
     (append-nil (reverse (r.whole ++ begun r.next r.front)) ∙ ap reverse parts
-    ∙ back_told s.core.whole s.core.place)
-    ∙ ap (back_tail (enhanced_of p) (lanes_count (lanes_of p)) (told (reverse s.core.whole) s.core.place)) front
-    ∙ at_is (enhanced_of p) (lanes_count (lanes_of p)) (reverse s.core.whole) s.core.place s.core.knows.live_at in
-    s.core.unended ∙ ap number_of (sym t)
+    ∙ back_told s.whole s.place)
+    ∙ ap (back_tail (enhanced_of p) (lanes_count (lanes_of p)) (told (reverse s.whole) s.place)) front
+    ∙ at_is (enhanced_of p) (lanes_count (lanes_of p)) (reverse s.whole) s.place s.knows.live_at in
+    s.unended ∙ ap number_of (sym t)

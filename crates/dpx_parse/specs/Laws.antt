@@ -5,7 +5,7 @@ use Rattle.dpx_base.specs.declared.sym.Sym.{Sym}
 use Rattle.dpx_base.specs.Lanes.{lanes_count}
 use Rattle.dpx_grammar.specs.Accepted.{Frame, Receives, IsAccepted}
 use Rattle.dpx_parse.specs.declared.bad.ParseWhy.{ParseWhy}
-use Rattle.dpx_parse.specs.FirstFault.{HasNoFault, IsReason}
+use Rattle.dpx_parse.specs.FirstFault.{HasNoFault, IsReason, IsEvent}
 use Rattle.dpx_parse.specs.Received.{AreEvents, heard, frames_heard}
 use Rattle.dpx_parse.specs.declared.event.Event.{Event}
 
@@ -29,3 +29,10 @@ IsOneReason =
     (enhanced : Bool) (lanes : Lanes) (sets : List (List Sym)) (set : List Sym) (why other : ParseWhy)
     → IsReason enhanced (lanes_count lanes) sets set why → IsReason enhanced (lanes_count lanes) sets set other
     → why ≡ other
+
+-- A set that is accepted behind others tells one thing.
+abbrev pub IsOneEvent : Type 0
+IsOneEvent =
+    (enhanced : Bool) (lanes : Lanes) (sets : List (List Sym)) (set : List Sym) (event other : Event)
+    → IsEvent enhanced (lanes_count lanes) sets set event → IsEvent enhanced (lanes_count lanes) sets set other
+    → event ≡ other

@@ -23,6 +23,10 @@ pub record StandsFor (p : Parser) (sets : List (List Sym)) : Type 0 where
   pub number : p.number ≡ number_of (length sets)
   pub refused : p.refused ≡ None
 
+-- it has taken these sets, and refused the one behind them or none
+abbrev pub HasTaken : Parser → List (List Sym) → Type 0
+HasTaken p sets = Stands p.core sets
+
 abbrev pub HasRefused : Parser → ParseBad → Type 0
 HasRefused p bad = p.refused ≡ Some bad
 

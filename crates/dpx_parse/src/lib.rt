@@ -19,5 +19,5 @@ mod state;
 
 pub use bad::{ParseBad, ParseWhy};
 pub use event::Event;
-pub use laws::{accepted_without_fault, events_give_frames, one_reason};
+pub use laws::{accepted_without_fault, events_give_frames, one_event, one_reason};
 pub use parser::Parser;

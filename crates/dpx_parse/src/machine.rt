@@ -61,6 +61,7 @@ impl Core {
         ensures enhanced { self.new.enhanced ≡ self.old.enhanced }
         ensures taken { IfOk result (λ event.
             taken_by self.old set.now ≡ Ok (record { core = self.new; event = event })) }
+        ensures same { IfErr result (λ why. self.new ≡ self.old) }
         ensures refused { IfErr result (λ why.
             ◌≡◌ {A = Result Taken ParseWhy} (taken_by self.old set.now) (Err why)) }
     {

@@ -17,7 +17,7 @@ impl Parser {
     ghost use Rattle.dpx_base.specs.Lanes.{lanes_count};
     ghost use Rattle.dpx_base.specs.declared.sym.Sym.{Sym};
     ghost use Rattle.dpx_parse.specs.Parser.{lanes_of, enhanced_of, StandsFor, IsTail};
-    ghost use Rattle.dpx_parse.specs.Parser.{HasRefused, Accepts, Refuses};
+    ghost use Rattle.dpx_parse.specs.Parser.{HasTaken, HasRefused, Accepts, Refuses};
     ghost use Rattle.dpx_parse.specs.declared.bad.ParseBad.{ParseBad};
     ghost use Rattle.dpx_parse.specs.declared.event.Event.{Event};
 
@@ -44,6 +44,8 @@ impl Parser {
             → Accepts (enhanced_of self.old) (lanes_of self.old) sets set.now event self.new) }
         ensures refused { IfErr result (λ bad. (sets : List (List Sym)) → StandsFor self.old sets
             → Refuses (enhanced_of self.old) (lanes_of self.old) sets set.now bad) }
+        ensures stays { IfErr result (λ bad. (sets : List (List Sym)) → HasTaken self.old sets
+            → HasTaken self.new sets) }
         ensures refuses_on { IfErr result (λ bad. HasRefused self.new bad) }
         ensures again { (bad : ParseBad) → HasRefused self.old bad
             → ◌≡◌ {A = Result Event ParseBad} result (Err bad) }
@@ -68,8 +70,9 @@ impl Parser {
     }
 
     /// How many sets an active part that no group has ended yet has so far, its BE included; 0 where there is none.
+    /// A set that is refused does not count.
     pub fn tail(&self) -> u64
-        ensures { (sets : List (List Sym)) → StandsFor self.now sets
+        ensures { (sets : List (List Sym)) → HasTaken self.now sets
             → IsTail (enhanced_of self.now) (lanes_of self.now) sets result }
     {
         self.core.unended()
