@@ -1,4 +1,5 @@
-ghost use Rattle.std.specs.Prelude.{◌≡◌, None, false};
+ghost use Rattle.std.specs.Prelude.{◌≡◌, ◌≤◌, ◌+◌, None, IsSome, IfOk, false};
+ghost use Rattle.dpx_base.specs.declared.depth.Depth.TheVariants.{Eight};
 
 use crate::file_source::FileSource;
 use crate::records::{Records, TakeEnd};
@@ -93,5 +94,77 @@ impl Pipe for FilePipe {
                 Err(PipeEnd::Failed)
             }
         }
+    }
+}
+
+#[cfg(test)]
+mod tests {
+    use super::*;
+    use dpx_base::{Depth, Lanes, ModeField, Rate, RawMode, Sym};
+    use std::fs;
+    use std::process::Abort;
+    use std::test::Fail;
+
+    const LINK: Link = Link {
+        rate: Rate::Rbr,
+        lanes: Lanes::Two,
+        enhanced: true,
+    };
+
+    /// 16 × 2 pixels of 28 × 4, three symbol clocks a tick.
+    fn small_mode() -> Result<Mode, ModeField>
+        ensures { IfOk result (λ mode. (mode.clock_khz ≡ 54000) × (mode.depth ≡ Eight)) }
+    {
+        Mode::read(&RawMode {
+            width: 16,
+            height: 2,
+            htotal: 28,
+            vtotal: 4,
+            hsw: 4,
+            hstart: 8,
+            vsw: 1,
+            vstart: 2,
+            hsp: false,
+            vsp: false,
+            clock_khz: 54_000,
+            depth: Depth::Eight,
+        })
+    }
+
+    #[test]
+    fn a_pipe_over_no_file_does_not_begin(rt: HostRuntime) -> Result<(), Fail> {
+        let mode = small_mode()?;
+        for name in ["no folder/frames.pixels", ""] {
+            let mut pipe = FilePipe::new(FileSource::open(&rt, name));
+            let begun = pipe.begin(rt.alloc(), &mode, LINK, 2, 699);
+            assert_eq!(rt; begun, Err(BeginEnd::Failed));
+        }
+        Ok(())
+    }
+
+    /// How many of the clocks go on, and why the next does not.
+    fn first_end(pipe: &mut FilePipe, clocks: u64) -> (u64, Option<PipeEnd>)
+        requires begun { IsSome pipe.old.begun }
+        requires kept { pipe.old.refused ≡ false }
+        requires left { pipe.old.clock + clocks ≤ pipe.old.clocks }
+    {
+        let fill = LaneSet::on_each(Lanes::Two, Sym::data(0));
+        for clock in 0..clocks {
+            if let Err(end) = pipe.clock(&fill) {
+                return (clock, Some(end));
+            }
+        }
+        (clocks, None)
+    }
+
+    #[test]
+    fn a_record_and_a_half_are_one_pixel(rt: HostRuntime) -> Result<(), Fail> {
+        let mode = small_mode()?;
+        fs::write(&rt, "frames.pixels", &[0; 9])?;
+        let mut pipe = FilePipe::new(FileSource::open(&rt, "frames.pixels"));
+        pipe.begin(rt.alloc(), &mode, LINK, 2, 699)?;
+        // tick by tick the pixels come as the last of each third clock; the first in tick 12 of line 2
+        assert_eq!(rt; first_end(&mut pipe, 699), (209, Some(PipeEnd::Ended(1))));
+        Ok(())
     }
 }

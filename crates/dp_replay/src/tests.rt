@@ -14,6 +14,8 @@ use std::thread::Threads;
 mod faults;
 mod histories;
 mod reports;
+mod send_faults;
+mod sending;
 mod walk;
 
 /// A job with a modelled sink that has HBR3 in its extended field, four lanes and TPS4. Behind its
