@@ -1,5 +1,5 @@
 -- A set tells one thing at most.
-use Rattle.std.proofs.Common.{◌≡◌, ◌∙◌, List, [], ◌∷◌, ◌++◌, reverse, sym, ap}
+use Rattle.std.proofs.Common.{◌∙◌, [], ◌∷◌, ◌++◌, reverse, sym, ap}
 use Rattle.dpx_base.specs.Lanes.{lanes_count}
 use Rattle.dpx_parse.specs.Events.{event_told}
 use Rattle.dpx_parse.specs.Laws.{IsOneEvent}
