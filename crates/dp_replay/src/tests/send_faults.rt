@@ -82,11 +82,9 @@ fn a_fault_at_once_stops_the_command(rt: HostRuntime) -> Result<(), Fail> {
 }
 
 /// The pipe that fails at this clock was handed its set and no further one.
-fn pipe_fails<R: Abort + Threads + Sync>(rt: &R, alloc: Global, clock: usize) -> Result<(), Fail>
-    requires { clock < 699 }
-{
+fn pipe_fails<R: Abort + Threads + Sync>(rt: &R, alloc: Global, clock: u16) -> Result<(), Fail> {
     let job = job(alloc, TWO_LANES, TWO_FRAMES, 8)?;
-    let clocks = [clock as u64];
+    let clocks = [u64::from(clock)];
     let fails = Fails {
         clocks: &clocks,
         ..CALM
@@ -95,7 +93,7 @@ fn pipe_fails<R: Abort + Threads + Sync>(rt: &R, alloc: Global, clock: usize) ->
     let report = "plan symbols 24 n 1296000 m 2592000 unit 32 delay 25 end 40 bound 20\n\
         pipe fault\n";
     ends(rt, alloc, "send a b c", &mut stage, (report, 9))?;
-    assert_eq!(rt; stage.pipe.sets().len(), clock + 1);
+    assert_eq!(rt; stage.pipe.sets().len(), usize::from(clock) + 1);
     Ok(())
 }
 
