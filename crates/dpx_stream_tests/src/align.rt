@@ -231,6 +231,7 @@ fn hear_behind<R: Threads + Sync + Abort>(
     alloc: Global,
     enhanced: bool,
     skipped: usize,
+    cuts: [usize; 2],
 ) -> Heard
     requires { skipped ≤ 701 }
 {
@@ -249,33 +250,41 @@ fn hear_behind<R: Threads + Sync + Abort>(
         alloc,
         link(Lanes::Two, enhanced),
         bytes.as_slice(),
-        AT_ONCE,
+        cuts,
     )
+}
+
+/// Without so many clocks all sets of the two frames are heard.
+fn all_are_heard<R: Threads + Sync + Abort>(rt: &R, alloc: Global, skipped: usize, cuts: [usize; 2])
+    requires { skipped ≤ 701 }
+{
+    let heard = hear_behind(rt, alloc, true, skipped, cuts);
+    assert_eq!(rt;
+        (heard.bad, heard.lock, heard.sets.len()),
+        (None, Ok(()), 598)
+    );
+    for (number, set) in (0u64..598).zip(heard.sets.iter()) {
+        let [first, second] = sent(number);
+        assert_eq!(rt; *set, [first, second, 0, 0], "{number}");
+    }
 }
 
 #[test]
 fn two_frames_lock_while_their_first_group_is_whole(rt: HostRuntime) {
     for skipped in [0, 100, 101] {
-        let heard = hear_behind(&rt, rt.alloc(), true, skipped);
-        assert_eq!(rt;
-            (heard.bad, heard.lock, heard.sets.len()),
-            (None, Ok(()), 598)
-        );
-        for (number, set) in (0u64..598).zip(heard.sets.iter()) {
-            let [first, second] = sent(number);
-            assert_eq!(rt; *set, [first, second, 0, 0], "{number}");
-        }
+        all_are_heard(&rt, rt.alloc(), skipped, AT_ONCE);
+        all_are_heard(&rt, rt.alloc(), skipped, BY_AND_BY);
     }
-    let heard = hear_behind(&rt, rt.alloc(), true, 102);
+    let heard = hear_behind(&rt, rt.alloc(), true, 102, BY_AND_BY);
     let lock = Err(NoLock { clocks: 599 });
     assert_eq!(rt; (heard.bad, heard.lock, heard.sets.len()), (None, lock, 0));
 }
 
 #[test]
 fn default_framing_locks_at_any_sr(rt: HostRuntime) {
-    let heard = hear_behind(&rt, rt.alloc(), false, 0);
+    let heard = hear_behind(&rt, rt.alloc(), false, 0, AT_ONCE);
     assert_eq!(rt; heard.sets.get(1).copied(), Some([0x17c, 0x17c, 0, 0]));
-    let heard = hear_behind(&rt, rt.alloc(), false, 102);
+    let heard = hear_behind(&rt, rt.alloc(), false, 102, BY_AND_BY);
     assert_eq!(rt; heard.sets.first().copied(), Some([0x11c, 0x11c, 0, 0]));
     assert_eq!(rt; heard.sets.get(1).copied(), Some([0x011, 0x17c, 0, 0]));
 }
