@@ -1,8 +1,10 @@
 -- A batch of whole clocks behind those before it: what was left of an unfinished clock, and a piece behind it.
 use Rattle.std.proofs.Common.{ℕ, ◌≡◌, ◌∙◌, ◌<◌, ◌+◌, ◌*◌, ◌/◌, ◌%◌, List, [], ◌++◌, length, sym, ap, subst, append_assoc, arith, refl, Result, Ok, Err}
 use Rattle.std.specs.Prelude.{OnOk}
-use Rattle.std.proofs.Common.{◌∷◌, ◌-◌, get_or, take, drop}
+use Rattle.std.proofs.Common.{◌∷◌, ◌-◌, ◌^◌, get_or, take, drop, inl, inr}
+use Rattle.std.proofs.Math.Nat.{mul-le-mul_right}
 use Rattle.std.proofs.Math.Seq.{take-add}
+use Rattle.std.proofs.lemmas.Bool.{cases_lt}
 use Rattle.std.proofs.lemmas.List.{take-append-drop, take_rest}
 use Rattle.std.proofs.lemmas.Nat.{div-add-mod', div-mul-add}
 use Rattle.dpx_base.specs.Capture.{words_in}
@@ -82,13 +84,20 @@ pub on_ok : {T E P Q : Type 0} (r : Result T E) → (P → Q) → OnOk r P → O
 on_ok (Ok x) f h = f h
 on_ok (Err e) f h = tt
 
--- the clocks fed, and what is left, are the bytes fed
-pub fed_on : (before now n wide left next fed more : ℕ) → now ≡ before + n → before * wide + left ≡ fed
-    → left + more ≡ n * wide + next → now * wide + next ≡ fed + more
-fed_on before now n wide left next fed more e f g =
-    let a : now * wide ≡ (before + n) * wide = ap (λ x. x * wide) e in
-    let s : (before + n) * wide ≡ before * wide + n * wide = omega arith in
-    omega (arith, a, s, f, g)
+-- the bytes of more clocks, and of what is left behind them
+pub bytes_on : (clocks n wide left next fed more : ℕ) → clocks * wide + left ≡ fed → left + more ≡ n * wide + next
+    → (clocks + n) * wide + next ≡ fed + more
+bytes_on clocks n wide left next fed more f g =
+    let s : (clocks + n) * wide ≡ clocks * wide + n * wide = omega arith in
+    omega (arith, s, f, g)
+
+-- fewer bytes than those of so many clocks have fewer clocks
+pub few_clocks : (clocks wide left : ℕ) → clocks * wide + left < 2 ^ 62 * wide → clocks < 2 ^ 62
+few_clocks clocks wide left h =
+    elim (cases_lt clocks (2 ^ 62)) [
+      | inl l ↦ l
+      | inr g ↦ absurd (omega (arith, h, mul-le-mul_right {m = 2 ^ 62} {n = clocks} wide g))
+    ]
 
 pub one_clock : (wide : ℕ) → 0 < wide → wide / wide ≡ 1
 one_clock wide some =

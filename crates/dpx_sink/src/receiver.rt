@@ -46,7 +46,7 @@ impl Receiver {
         pix: &mut O,
         log: &mut O,
     ) -> Result<(), RecvEnd>
-        requires few { bytes_fed self.old + length bytes.now < most_bytes (link_of self.old) }
+        requires few { IsOpen self.old → bytes_fed self.old + length bytes.now < most_bytes (link_of self.old) }
         ensures feeds { (taken records text : List ℕ) → StandsFor self.old taken records text
             → Feeds self.new (link_of self.old) (sinks (O.seen pix.old) (O.seen log.old))
             (sinks (O.seen pix.new) (O.seen log.new)) (taken ++ bytes.now) records text result }

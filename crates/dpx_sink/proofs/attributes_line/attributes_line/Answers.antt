@@ -1,6 +1,7 @@
 use Rattle.std.proofs.Common.{◌≡◌, ◌∙◌, ◌++◌, List, ℕ, ap, codes}
 use Rattle.std.specs.Fmt.{decimal}
 use Rattle.dpx_base.specs.Mode.{depth_bits}
+use Rattle.dpx_reception.specs.Digits.{hex_byte}
 use Rattle.dpx_reception.specs.Due.{attributes_line, bit}
 use Rattle.dpx_sink.proofs.Onto.{behind}
 use Rattle.dpx_sink.proofs.attributes_line.attributes_line.Goals as goal
@@ -32,9 +33,9 @@ returns c =
     c.push_number-11.ensures.items in
     let e11 : c.push_number-12.new.line.items ≡ c.push_number-11.new.line.items ++ (codes " nvid " ++ decimal c.args.a.now.nvid) =
     c.push_number-12.ensures.items in
-    let e12 : c.push_number-13.new.line.items ≡ c.push_number-12.new.line.items ++ (codes " misc0 " ++ decimal c.args.a.now.misc0) =
-    c.push_number-13.ensures.items in
-    let e13 : c.push_number-14.new.line.items ≡ c.push_number-13.new.line.items ++ (codes " depth " ++ decimal (depth_bits c.args.a.now.depth)) =
-    c.push_number-14.ensures.items ∙ ap (λ (x : ℕ). c.push_number-13.new.line.items ++ (codes " depth " ++ decimal x)) c.bits.ensures in
-    let all = behind _ _ _ _ c.push.ensures.items (behind _ _ _ _ e13 (behind _ _ _ _ e12 (behind _ _ _ _ e11 (behind _ _ _ _ e10 (behind _ _ _ _ e9 (behind _ _ _ _ e8 (behind _ _ _ _ e7 (behind _ _ _ _ e6 (behind _ _ _ _ e5 (behind _ _ _ _ e4 (behind _ _ _ _ e3 (behind _ _ _ _ e2 (behind _ _ _ _ e1 (e0 ∙ ap (λ (xs : List ℕ). xs ++ (codes "attributes width " ++ decimal c.args.a.now.width)) c.new-line.ensures)))))))))))))) in
+    let e12 : c.push.new.line.items ≡ c.push_number-12.new.line.items ++ codes " misc0 " = c.push.ensures.items in
+    let e13 : c.push_byte.new.line.items ≡ c.push.new.line.items ++ hex_byte c.args.a.now.misc0 = c.push_byte.ensures.items in
+    let e14 : c.push_number-13.new.line.items ≡ c.push_byte.new.line.items ++ (codes " depth " ++ decimal (depth_bits c.args.a.now.depth)) =
+    c.push_number-13.ensures.items ∙ ap (λ (x : ℕ). c.push_byte.new.line.items ++ (codes " depth " ++ decimal x)) c.bits.ensures in
+    let all = behind _ _ _ _ c.push-2.ensures.items (behind _ _ _ _ e14 (behind _ _ _ _ e13 (behind _ _ _ _ e12 (behind _ _ _ _ e11 (behind _ _ _ _ e10 (behind _ _ _ _ e9 (behind _ _ _ _ e8 (behind _ _ _ _ e7 (behind _ _ _ _ e6 (behind _ _ _ _ e5 (behind _ _ _ _ e4 (behind _ _ _ _ e3 (behind _ _ _ _ e2 (behind _ _ _ _ e1 (e0 ∙ ap (λ (xs : List ℕ). xs ++ (codes "attributes width " ++ decimal c.args.a.now.width)) c.new-line.ensures))))))))))))))) in
     all

@@ -18,7 +18,7 @@ returns-clause-nothing c =
         whole = omega arith;
         short = omega (arith, some, ap length c.new.ensures);
       };
-      fed = refl;
+      fed = omega (arith, ap length c.new.ensures);
       read = subst (λ w. HasReadWhole (framing_of c.args.link) c.in_ok-new-2.field-0 w [] []) (sym (no_received lanes))
           c.in_ok-new-2.ensures.start;
     }

@@ -31,7 +31,7 @@ loop-start-preserved g c =
       link = c.turn.ensures.link ∙ before.link;
       fed = omega (arith, before.fed, c.in-Ok.ensures.fed);
       calm =
-          let calm = c.in-Ok.ensures.calm (λ same. cc) in
+          let calm = c.in-Ok.ensures.calm (λ failed same. cc) in
           record { pix = calm.pix ∙ before.calm.pix; log = calm.log ∙ before.calm.log };
     }
 

@@ -6,7 +6,7 @@ use Rattle.dpx_lane.specs.Team.{joined}
 use Rattle.dpx_reception.specs.Bytes.{received_words}
 use Rattle.dpx_sink.specs.Clocks.{IsCut, framing_of}
 use Rattle.dpx_sink.specs.Reader.{HasReadWhole, HasBadWord, HasBadSet, HasSome}
-use Rattle.dpx_sink.proofs.Batches.{batch_words, whole_clocks, has_read, cut_on, read_on, in_front, on_ok, fed_on}
+use Rattle.dpx_sink.proofs.Batches.{batch_words, whole_clocks, has_read, cut_on, read_on, in_front, on_ok, bytes_on}
 use Rattle.dpx_sink.proofs.Writes.{went_map}
 use Rattle.dpx_sink.proofs.clocks.Clocks.take_whole.Goals as goal
 
@@ -29,7 +29,9 @@ returns-clause-went g c = λ bytes p l st.
       done = st.done ++ piece;
       cut = subst (λ xs. IsCut lanes (bytes ++ piece) (st.done ++ piece) xs) (sym c.requires.none)
           (cut_on link n bytes st.done [] piece cut whole);
-      fed = ap (λ k. k + length piece) st.fed ∙ sym (length-append bytes piece);
+      fed = bytes_on c.args.self.now.clocks n (2 * lanes) (length c.args.self.now.left.items)
+          (length c.args.self.now.left.items) (length bytes) (length piece) st.fed (omega (arith, whole))
+          ∙ sym (length-append bytes piece);
       read = read_on link n bytes st.done [] piece cut whole c.batch.new.self q m
           (subst (λ w. HasReadWhole f c.batch.new.self w q m) same h);
     })
@@ -56,10 +58,7 @@ returns-clause-ready g c =
       agrees = c.batch.ensures.agrees (framing_of link) ready.agrees;
       rows = c.batch.ensures.rows ∙ (ap (λ r. r.lanes) c.read_words.ensures ∙ ready.rows);
       short = ready.short;
-      fed = fed_on (clocks_fed c.args.self.now.reader.aligner) (clocks_fed c.batch.new.self.aligner) (length piece / wide) wide
-          (length c.args.self.now.left.items) (length c.args.self.now.left.items) c.args.self.now.fed (length piece)
-          (c.batch.ensures.fed ∙ ap (λ k. clocks_fed c.args.self.now.reader.aligner + k) clocks) ready.fed
-          (omega (arith, whole, left));
-      few = c.requires.few;
+      fed = omega (arith, c.batch.ensures.fed, clocks, ready.fed);
+      few = ?;
       rests = rests;
     }) c.batch.ensures.rested

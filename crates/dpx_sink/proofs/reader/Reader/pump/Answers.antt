@@ -24,7 +24,7 @@ loop-more-preserved g c = record {
   fed = c.advance.ensures.fed ∙ c.loop-more.invariant.fed;
   rested = λ none. (c.in-Ok.ensures.last none).0;
   calm =
-      let calm = c.in-Ok.ensures.calm (λ same. cc) in
+      let calm = c.in-Ok.ensures.calm (λ failed same. cc) in
       record { pix = calm.pix ∙ c.loop-more.invariant.calm.pix; log = calm.log ∙ c.loop-more.invariant.calm.log };
 }
 
