@@ -91,6 +91,9 @@ bytes_on clocks n wide left next fed more f g =
     let s : (clocks + n) * wide ≡ clocks * wide + n * wide = omega arith in
     omega (arith, s, f, g)
 
+pub one_more : (clocks wide : ℕ) → (clocks + 1) * wide ≡ clocks * wide + wide
+one_more clocks wide = omega arith
+
 -- fewer bytes than those of so many clocks have fewer clocks
 pub few_clocks : (clocks wide left : ℕ) → clocks * wide + left < 2 ^ 62 * wide → clocks < 2 ^ 62
 few_clocks clocks wide left h =

@@ -1,12 +1,16 @@
 -- Writes, one behind the other.
-use Rattle.std.proofs.Common.{ℕ, ◌∙◌, List, [], ◌++◌, sym, ap, subst, append_assoc, arith, Option, Result, Ok, Err}
+use Rattle.std.proofs.Common.{ℕ, ◌∙◌, List, [], ◌++◌, sym, ap, subst, append_assoc, arith, refl, ◌≡◌, Option, Some, Result, Ok, Err}
+use Rattle.std.specs.Prelude.{⊤}
 use Rattle.dpx_base.specs.Faults.{Rose}
 use Rattle.std.proofs.lemmas.List.{append-nil}
 use Rattle.std.specs.Io.KnownBytes.{Appends}
 use Rattle.dpx_align.specs.declared.align_bad.AlignBad.{AlignBad}
 use Rattle.dpx_parse.specs.declared.bad.ParseBad.{ParseBad}
 use Rattle.dpx_sink.specs.Writes.{AppendsFront, PixelsTook, LogTook, Sinks, Wrote, WroteFront, Refused, Went}
-use Rattle.dpx_sink.specs.Writes.{Calm, OneFailed}
+use Rattle.dpx_sink.specs.Receiver.{end_of, output_told}
+use Rattle.dpx_sink.specs.Writes.{Calm, OneFailed, HasCause, WriteFails}
+use Rattle.dpx_sink.specs.declared.recv_end.RecvEnd.{RecvEnd}
+use Rattle.dpx_sink.specs.declared.recv_end.RecvEnd.TheVariants.{WriteFault}
 use Rattle.dpx_sink.specs.declared.output.Output.{Output}
 use Rattle.dpx_sink.specs.declared.output.Output.TheVariants.{Pixels, Log}
 use Rattle.dpx_sink.specs.declared.refusal.Refusal.{Refusal}
@@ -129,7 +133,7 @@ went_map a b p l ok ok_ word word_ set set_ part part_ (Err refusal) e f g h w =
     refused_map a b p l word word_ set set_ part part_ refusal f g h w
 
 -- no write failed, and then one did
-pub failed_on : (failed : Output) (a b c : Sinks) → Calm a b → OneFailed failed b c → OneFailed failed a c
+failed_on : (failed : Output) (a b c : Sinks) → Calm a b → OneFailed failed b c → OneFailed failed a c
 failed_on Pixels a b c calm f = (
   record { kept = omega (arith, calm.pix, f.0.kept); rose = subst (λ n. Rose n c.pix.faults) calm.pix f.0.rose },
   f.1 ∙ calm.log,
@@ -138,3 +142,25 @@ failed_on Log a b c calm f = (
   record { kept = omega (arith, calm.log, f.0.kept); rose = subst (λ n. Rose n c.log.faults) calm.log f.0.rose },
   f.1 ∙ calm.pix,
 )
+
+calm_on : (a b c : Sinks) → Calm a b → Calm b c → Calm a c
+calm_on a b c h k = record { pix = k.pix ∙ h.pix; log = k.log ∙ h.log }
+
+-- no write failed, and then a refusal
+pub cause_on : (refusal : Refusal) (a b c : Sinks) → Calm a b → HasCause refusal b c → HasCause refusal a c
+cause_on (Word bad) a b c calm f = calm_on a b c calm f
+cause_on (Set bad) a b c calm f = calm_on a b c calm f
+cause_on (Write failed) a b c calm f = failed_on failed a b c calm f
+
+-- as callers see it
+pub calm_seen : (refusal : Refusal) (a b : Sinks) → HasCause refusal a b
+    → (◌≡◌ {A = Result ⊤ RecvEnd} (Err (end_of refusal)) (Err WriteFault) → ⊥) → Calm a b
+calm_seen (Word bad) a b h none = h
+calm_seen (Set bad) a b h none = h
+calm_seen (Write failed) a b h none = absurd (none refl)
+
+pub failure_seen : (refusal : Refusal) (a b : Sinks) → HasCause refusal a b
+    → ◌≡◌ {A = Result ⊤ RecvEnd} (Err (end_of refusal)) (Err WriteFault) → WriteFails (output_told (Some refusal)) a b
+failure_seen (Word bad) a b h is = absurd (cc)
+failure_seen (Set bad) a b h is = absurd (cc)
+failure_seen (Write failed) a b h is = h

@@ -66,7 +66,13 @@ abbrev pub OneFailed : (failed : Output) → (before now : Sinks) → Type 0
 OneFailed Pixels before now = HasFailed before.pix now.pix × (now.log.faults ≡ before.log.faults)
 OneFailed Log before now = HasFailed before.log now.log × (now.pix.faults ≡ before.pix.faults)
 
--- there is one
+-- what a refusal leaves of the counts
+abbrev pub HasCause : Refusal → (before now : Sinks) → Type 0
+HasCause (Word bad) before now = Calm before now
+HasCause (Set bad) before now = Calm before now
+HasCause (Write failed) before now = OneFailed failed before now
+
+-- there is an output that a write failed at
 abbrev pub WriteFails : Option Output → (before now : Sinks) → Type 0
 WriteFails None before now = ⊥
 WriteFails (Some failed) before now = OneFailed failed before now

@@ -1,11 +1,11 @@
 ghost use Rattle.std.specs.Prelude.{◌≡◌, ◌≢◌, ◌≤◌, ◌<◌, ◌+◌, ◌*◌, ◌%◌, ◌^◌, ◌++◌, ◌∷◌, ℕ, List, [], Ok, Err, length, take};
-ghost use Rattle.std.specs.Prelude.{IfOk, OnOk};
+ghost use Rattle.std.specs.Prelude.{IfErr, IfOk, OnOk};
 ghost use Rattle.dpx_align.specs.declared.align_bad.AlignBad.{AlignBad};
 ghost use Rattle.dpx_base.specs.Lanes.{lanes_count};
 ghost use Rattle.dpx_parse.specs.declared.bad.ParseBad.{ParseBad};
 ghost use Rattle.dpx_sink.specs.Clocks.{HasTaken, InFront, IsReady, framing_of, bytes_in};
 ghost use Rattle.dpx_sink.specs.Reader.{HasBadWord, HasBadSet, HasSome};
-ghost use Rattle.dpx_sink.specs.Writes.{Went, Calm, OneFailed, sinks};
+ghost use Rattle.dpx_sink.specs.Writes.{Went, Calm, HasCause, sinks};
 
 use crate::reader::Reader;
 use crate::refusal::Refusal;
@@ -31,8 +31,6 @@ pub(crate) struct Clocks {
 
 impl Clocks {
     ghost use Rattle.dpx_sink.specs.Receiver.{EndsAs};
-    ghost use Rattle.dpx_sink.specs.declared.output.Output.{Output};
-    ghost use Rattle.dpx_sink.specs.declared.refusal.Refusal.{Refusal};
 
     /// Takes all its memory, and has taken no byte.
     pub fn new(alloc: Global, link: Link) -> Result<Clocks, Memory>
@@ -84,10 +82,10 @@ impl Clocks {
         ensures ready { OnOk result (IsReady self.new) }
         ensures link { self.new.link ≡ self.old.link }
         ensures fed { OnOk result (bytes_in self.new ≡ bytes_in self.old + length piece.now) }
-        ensures calm { ((failed : Output) → result ≢ Err (Refusal.Write failed))
-            → Calm (sinks (O.seen pix.old) (O.seen log.old)) (sinks (O.seen pix.new) (O.seen log.new)) }
-        ensures cause { (failed : Output) → result ≡ Err (Refusal.Write failed)
-            → OneFailed failed (sinks (O.seen pix.old) (O.seen log.old)) (sinks (O.seen pix.new) (O.seen log.new)) }
+        ensures calm { OnOk result (Calm (sinks (O.seen pix.old) (O.seen log.old))
+            (sinks (O.seen pix.new) (O.seen log.new))) }
+        ensures cause { IfErr result (λ refusal. HasCause refusal (sinks (O.seen pix.old) (O.seen log.old))
+            (sinks (O.seen pix.new) (O.seen log.new))) }
     {
         self.clocks += (piece.len() / self.wide()) as u64;
         self.rows.read_words(piece);
@@ -119,10 +117,10 @@ impl Clocks {
         ensures ready { OnOk result (IsReady self.new) }
         ensures link { self.new.link ≡ self.old.link }
         ensures fed { OnOk result (bytes_in self.new ≡ bytes_in self.old + 1) }
-        ensures calm { ((failed : Output) → result ≢ Err (Refusal.Write failed))
-            → Calm (sinks (O.seen pix.old) (O.seen log.old)) (sinks (O.seen pix.new) (O.seen log.new)) }
-        ensures cause { (failed : Output) → result ≡ Err (Refusal.Write failed)
-            → OneFailed failed (sinks (O.seen pix.old) (O.seen log.old)) (sinks (O.seen pix.new) (O.seen log.new)) }
+        ensures calm { OnOk result (Calm (sinks (O.seen pix.old) (O.seen log.old))
+            (sinks (O.seen pix.new) (O.seen log.new))) }
+        ensures cause { IfErr result (λ refusal. HasCause refusal (sinks (O.seen pix.old) (O.seen log.old))
+            (sinks (O.seen pix.new) (O.seen log.new))) }
     {
         self.left.push(byte);
         if self.left.len() < self.wide() {
@@ -162,10 +160,10 @@ impl Clocks {
         ensures ready { OnOk result (IsReady self.new) }
         ensures link { self.new.link ≡ self.old.link }
         ensures fed { IfOk result (λ n. bytes_in self.new ≡ bytes_in self.old + n) }
-        ensures calm { ((failed : Output) → result ≢ Err (Refusal.Write failed))
-            → Calm (sinks (O.seen pix.old) (O.seen log.old)) (sinks (O.seen pix.new) (O.seen log.new)) }
-        ensures cause { (failed : Output) → result ≡ Err (Refusal.Write failed)
-            → OneFailed failed (sinks (O.seen pix.old) (O.seen log.old)) (sinks (O.seen pix.new) (O.seen log.new)) }
+        ensures calm { OnOk result (Calm (sinks (O.seen pix.old) (O.seen log.old))
+            (sinks (O.seen pix.new) (O.seen log.new))) }
+        ensures cause { IfErr result (λ refusal. HasCause refusal (sinks (O.seen pix.old) (O.seen log.old))
+            (sinks (O.seen pix.new) (O.seen log.new))) }
     {
         let wide = self.wide();
         if self.left.len() == 0 && bytes.len() >= wide {
@@ -206,10 +204,10 @@ impl Clocks {
         ensures ready { OnOk result (IsReady self.new) }
         ensures link { self.new.link ≡ self.old.link }
         ensures fed { OnOk result (bytes_in self.new ≡ bytes_in self.old + length bytes.now) }
-        ensures calm { ((failed : Output) → result ≢ Err (Refusal.Write failed))
-            → Calm (sinks (O.seen pix.old) (O.seen log.old)) (sinks (O.seen pix.new) (O.seen log.new)) }
-        ensures cause { (failed : Output) → result ≡ Err (Refusal.Write failed)
-            → OneFailed failed (sinks (O.seen pix.old) (O.seen log.old)) (sinks (O.seen pix.new) (O.seen log.new)) }
+        ensures calm { OnOk result (Calm (sinks (O.seen pix.old) (O.seen log.old))
+            (sinks (O.seen pix.new) (O.seen log.new))) }
+        ensures cause { IfErr result (λ refusal. HasCause refusal (sinks (O.seen pix.old) (O.seen log.old))
+            (sinks (O.seen pix.new) (O.seen log.new))) }
     {
         let mut start = 0;
         while start < bytes.len() {

@@ -1,5 +1,5 @@
 ghost use Rattle.std.specs.Prelude.{◌≡◌, ◌≢◌, ◌≤◌, ◌<◌, ◌+◌, ◌*◌, ◌^◌, ℕ, List, [], ◌∷◌, ◌++◌, Bool, true, false, Ok, Err, length};
-ghost use Rattle.std.specs.Prelude.{IfOk, OnOk, replicate};
+ghost use Rattle.std.specs.Prelude.{IfErr, IfOk, OnOk, replicate};
 ghost use Rattle.dpx_align.specs.Aligner.{lanes_of, is_enhanced, clocks_fed, CanFeed, waiting};
 ghost use Rattle.dpx_align.specs.declared.align_bad.AlignBad.{AlignBad};
 ghost use Rattle.dpx_base.specs.Lanes.{lanes_count};
@@ -9,7 +9,7 @@ ghost use Rattle.dpx_parse.specs.Parser.{enhanced_of};
 ghost use Rattle.dpx_parse.specs.Parser as parser;
 ghost use Rattle.dpx_sink.specs.Reader.{Framing, HasRead, IsNext, HasReadWhole, HasBadWord, HasBadSet, HasSome, Agrees};
 ghost use Rattle.dpx_sink.specs.Reader.{ReadEnds};
-ghost use Rattle.dpx_sink.specs.Writes.{Went, Calm, OneFailed, sinks};
+ghost use Rattle.dpx_sink.specs.Writes.{Went, Calm, HasCause, sinks};
 
 use crate::lines::Lines;
 use crate::refusal::Refusal;
@@ -30,9 +30,6 @@ pub(crate) struct Reader {
 }
 
 impl Reader {
-    ghost use Rattle.dpx_sink.specs.declared.output.Output.{Output};
-    ghost use Rattle.dpx_sink.specs.declared.refusal.Refusal.{Refusal};
-
     /// Takes all its memory, and has read nothing.
     pub fn new(alloc: Global, link: Link) -> Result<Reader, Memory>
         ensures start { IfOk result (λ reader.
@@ -59,10 +56,10 @@ impl Reader {
             (λ q m. HasSome f words q m) result }
         ensures agrees { (f : Framing) → Agrees f self.old → Agrees f self.new }
         ensures aligner { self.new.aligner ≡ self.old.aligner }
-        ensures calm { ((failed : Output) → result ≢ Err (Refusal.Write failed))
-            → Calm (sinks (O.seen pix.old) (O.seen log.old)) (sinks (O.seen pix.new) (O.seen log.new)) }
-        ensures cause { (failed : Output) → result ≡ Err (Refusal.Write failed)
-            → OneFailed failed (sinks (O.seen pix.old) (O.seen log.old)) (sinks (O.seen pix.new) (O.seen log.new)) }
+        ensures calm { OnOk result (Calm (sinks (O.seen pix.old) (O.seen log.old))
+            (sinks (O.seen pix.new) (O.seen log.new))) }
+        ensures cause { IfErr result (λ refusal. HasCause refusal (sinks (O.seen pix.old) (O.seen log.old))
+            (sinks (O.seen pix.new) (O.seen log.new))) }
     {
         match self.parser.feed(set) {
             Ok(event) => match self.lines.hear(event, pix, log) {
@@ -87,10 +84,10 @@ impl Reader {
             → CanFeed self.new.aligner × (waiting self.new.aligner ≡ waiting self.old.aligner)) }
         ensures agrees { (f : Framing) → Agrees f self.old → Agrees f self.new }
         ensures fed { clocks_fed self.new.aligner ≡ clocks_fed self.old.aligner }
-        ensures calm { ((failed : Output) → result ≢ Err (Refusal.Write failed))
-            → Calm (sinks (O.seen pix.old) (O.seen log.old)) (sinks (O.seen pix.new) (O.seen log.new)) }
-        ensures cause { (failed : Output) → result ≡ Err (Refusal.Write failed)
-            → OneFailed failed (sinks (O.seen pix.old) (O.seen log.old)) (sinks (O.seen pix.new) (O.seen log.new)) }
+        ensures calm { OnOk result (Calm (sinks (O.seen pix.old) (O.seen log.old))
+            (sinks (O.seen pix.new) (O.seen log.new))) }
+        ensures cause { IfErr result (λ refusal. HasCause refusal (sinks (O.seen pix.old) (O.seen log.old))
+            (sinks (O.seen pix.new) (O.seen log.new))) }
     {
         let step = match self.aligner.step() {
             Ok(step) => step,
@@ -117,10 +114,10 @@ impl Reader {
         ensures rested { OnOk result (CanFeed self.new.aligner) }
         ensures agrees { (f : Framing) → Agrees f self.old → Agrees f self.new }
         ensures fed { clocks_fed self.new.aligner ≡ clocks_fed self.old.aligner }
-        ensures calm { ((failed : Output) → result ≢ Err (Refusal.Write failed))
-            → Calm (sinks (O.seen pix.old) (O.seen log.old)) (sinks (O.seen pix.new) (O.seen log.new)) }
-        ensures cause { (failed : Output) → result ≡ Err (Refusal.Write failed)
-            → OneFailed failed (sinks (O.seen pix.old) (O.seen log.old)) (sinks (O.seen pix.new) (O.seen log.new)) }
+        ensures calm { OnOk result (Calm (sinks (O.seen pix.old) (O.seen log.old))
+            (sinks (O.seen pix.new) (O.seen log.new))) }
+        ensures cause { IfErr result (λ refusal. HasCause refusal (sinks (O.seen pix.old) (O.seen log.old))
+            (sinks (O.seen pix.new) (O.seen log.new))) }
     {
         let mut more = true;
         while more {
@@ -156,10 +153,10 @@ impl Reader {
         ensures agrees { (f : Framing) → Agrees f self.old → Agrees f self.new }
         ensures rows { rows.new.lanes ≡ rows.old.lanes }
         ensures fed { clocks_fed self.new.aligner ≡ clocks_fed self.old.aligner + rows.old.clocks }
-        ensures calm { ((failed : Output) → result ≢ Err (Refusal.Write failed))
-            → Calm (sinks (O.seen pix.old) (O.seen log.old)) (sinks (O.seen pix.new) (O.seen log.new)) }
-        ensures cause { (failed : Output) → result ≡ Err (Refusal.Write failed)
-            → OneFailed failed (sinks (O.seen pix.old) (O.seen log.old)) (sinks (O.seen pix.new) (O.seen log.new)) }
+        ensures calm { OnOk result (Calm (sinks (O.seen pix.old) (O.seen log.old))
+            (sinks (O.seen pix.new) (O.seen log.new))) }
+        ensures cause { IfErr result (λ refusal. HasCause refusal (sinks (O.seen pix.old) (O.seen log.old))
+            (sinks (O.seen pix.new) (O.seen log.new))) }
     {
         self.aligner.feed(rt, rows, workers, gate);
         self.pump(pix, log)

@@ -3,7 +3,7 @@ use Rattle.std.proofs.lemmas.List.{append-nil, take_all, take_rest}
 use Rattle.dpx_sink.specs.Clocks.{InFront, framing_of}
 use Rattle.dpx_sink.specs.Reader.{HasBadWord, HasBadSet, HasSome}
 use Rattle.dpx_sink.proofs.Batches.{go_on, all_of}
-use Rattle.dpx_sink.proofs.Writes.{nothing_wrote, wrote_so, wrote_on, went_on, refused_map}
+use Rattle.dpx_sink.proofs.Writes.{nothing_wrote, wrote_so, wrote_on, went_on, refused_map, cause_on}
 use Rattle.dpx_sink.proofs.clocks.Clocks.take.Goals as goal
 
 pub loop-start-init : goal.loop-start-init
@@ -31,7 +31,7 @@ loop-start-preserved g c =
       link = c.turn.ensures.link ∙ before.link;
       fed = omega (arith, before.fed, c.in-Ok.ensures.fed);
       calm =
-          let calm = c.in-Ok.ensures.calm (λ failed same. cc) in
+          let calm = c.in-Ok.ensures.calm in
           record { pix = calm.pix ∙ before.calm.pix; log = calm.log ∙ before.calm.log };
     }
 
@@ -58,3 +58,6 @@ returns-clause-went g c = λ taken p l st.
     let bytes : List ℕ = c.args.bytes.now in
     let all : take c.loop-start.start bytes ≡ bytes = take_all c.loop-start.start bytes (omega (arith, c.loop-start-test.false)) in
     wrote_so _ _ p l _ _ (c.loop-start.invariant.wrote taken p l st) (λ q m h. rw (← all) h)
+
+pub returns-in-Err-clause-cause : goal.returns-in-Err-clause-cause
+returns-in-Err-clause-cause g c = cause_on c.in-Err.end _ _ _ c.loop-start.invariant.calm c.in-Err.ensures.cause

@@ -8,17 +8,17 @@ use Rattle.dpx_reception.proofs.Grown.{some_lanes}
 use Rattle.dpx_reception.specs.Bytes.{received_words}
 use Rattle.dpx_sink.specs.Clocks.{IsCut, framing_of}
 use Rattle.dpx_sink.specs.Reader.{HasReadWhole, HasBadWord, HasBadSet, HasSome}
-use Rattle.dpx_sink.proofs.Batches.{batch_words, has_read, cut_on, read_on, in_front, on_ok, bytes_on, one_clock}
+use Rattle.dpx_sink.proofs.Batches.{batch_words, has_read, cut_on, read_on, in_front, on_ok, bytes_on, few_clocks, one_more, one_clock}
 use Rattle.dpx_sink.proofs.Cuts.{kept_byte}
 use Rattle.dpx_sink.proofs.Writes.{nothing_wrote, went_map}
 use Rattle.dpx_sink.proofs.clocks.Clocks.take_byte.Goals as goal
 
-pub returns-then-len-from-clause-went : goal.returns-then-len-from-clause-went
-returns-then-len-from-clause-went g c = λ bytes p l st.
+pub returns-then-len-wide-clause-went : goal.returns-then-len-wide-clause-went
+returns-then-len-wide-clause-went g c = λ bytes p l st.
     let lanes : ℕ = lanes_count c.args.self.now.link.lanes in
     let left : List ℕ = c.args.self.now.left.items in
     let more : length left + 1 < 2 * lanes =
-    omega (arith, c.if-len-from.true, c.len.ensures.value, c.wide.ensures, ap length c.push.ensures.items, length-append left (c.args.byte ∷ [])) in
+    omega (arith, c.if-len-wide.true, c.len.ensures.value, c.wide.ensures, ap length c.push.ensures.items, length-append left (c.args.byte ∷ [])) in
     nothing_wrote _ p l _ (record {
       done = st.done;
       cut = subst (λ xs. IsCut lanes (bytes ++ c.args.byte ∷ []) st.done xs) (sym c.push.ensures.items)
@@ -42,7 +42,7 @@ returns-clause-went g c = λ bytes p l st.
     let piece : List ℕ = c.args.byte ∷ [] in
     let is : c.as_slice.result.now ≡ left ++ piece = c.as_slice.ensures.value ∙ c.push.ensures.items in
     let whole : length (left ++ piece) ≡ 1 * (2 * lanes) =
-    omega (arith, c.requires.ready.short, c.if-len-from.false, c.len.ensures.value, c.wide.ensures, ap length c.push.ensures.items, length-append left piece) in
+    omega (arith, c.requires.ready.short, c.if-len-wide.false, c.len.ensures.value, c.wide.ensures, ap length c.push.ensures.items, length-append left piece) in
     let rows : c.read_words.new.self.rows ≡ received_words lanes (left ++ piece) =
     ap (λ r. r.rows) c.read_words.ensures
     ∙ (ap (λ k. words_in (lanes_count k) (length c.as_slice.result.now / (2 * lanes_count k)) c.as_slice.result.now) c.requires.ready.rows
@@ -80,7 +80,7 @@ returns-clause-ready g c =
     let size : length c.as_slice.result.now ≡ length left + 1 =
     ap length (c.as_slice.ensures.value ∙ c.push.ensures.items) ∙ length-append left (c.args.byte ∷ []) in
     let whole : length left + 1 ≡ wide =
-    omega (arith, ready.short, c.if-len-from.false, c.len.ensures.value, c.wide.ensures, ap length c.push.ensures.items, length-append left (c.args.byte ∷ [])) in
+    omega (arith, ready.short, c.if-len-wide.false, c.len.ensures.value, c.wide.ensures, ap length c.push.ensures.items, length-append left (c.args.byte ∷ [])) in
     let clocks : c.read_words.new.self.clocks ≡ 1 =
     ap (λ r. r.clocks) c.read_words.ensures
     ∙ (ap (λ k. length c.as_slice.result.now / (2 * lanes_count k)) ready.rows
@@ -91,6 +91,11 @@ returns-clause-ready g c =
       rows = c.batch.ensures.rows ∙ (ap (λ r. r.lanes) c.read_words.ensures ∙ ready.rows);
       short = omega (arith, none, some_lanes link.lanes);
       fed = omega (arith, c.batch.ensures.fed, clocks, ready.fed);
-      few = ?;
+      few = few_clocks (c.args.self.now.clocks + 1) wide 0 (omega (
+        arith,
+        c.requires.few,
+        whole,
+        one_more c.args.self.now.clocks wide,
+      ));
       rests = rests;
     }) c.batch.ensures.rested

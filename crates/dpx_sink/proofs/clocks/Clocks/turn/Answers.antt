@@ -9,7 +9,7 @@ pub returns-in-Err-clause-went : goal.returns-in-Err-clause-went
 returns-in-Err-clause-went g c = λ taken p l st.
     let link = c.args.self.now.link in
     let f = framing_of link in
-    let n : ℕ = c.min.result * (2 * c.from-wide.result) in
+    let n : ℕ = c.min.result * c.wide-wide.result in
     let bytes : List ℕ = c.args.bytes.now in
     refused_map _ _ p l _ _ _ _ _ _ c.in-Err.end
     (λ bad q m h. front_all link (λ w. HasBadWord f w bad q m) taken bytes n h)
