@@ -23,8 +23,13 @@ use Rattle.dpx_sink.specs.declared.finish_end.Received.{Received}
 
 -- ---- one end
 
+abbrev counted : (frames lines tail : ℕ) → Received
+counted frames lines tail = record { frames = frames; lines = lines; tail_clocks = tail }
+
 same_received : (a b : Received) → a.frames ≡ b.frames → a.lines ≡ b.lines → a.tail_clocks ≡ b.tail_clocks → a ≡ b
-same_received a b e f g = cc
+same_received a b e f g =
+    ap (λ n. counted n a.lines a.tail_clocks) e
+    ∙ (ap (λ n. counted b.frames n a.tail_clocks) f ∙ ap (λ n. counted b.frames b.lines n) g)
 
 counts_once : (link : Link) (bytes : List ℕ) (a b : Received) → Counts link bytes a → Counts link bytes b → a ≡ b
 counts_once link bytes a b h k =

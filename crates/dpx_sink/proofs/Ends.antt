@@ -1,5 +1,5 @@
 -- The end of bytes without a fault.
-use Rattle.std.proofs.Common.{ℕ, ◌≡◌, ◌∙◌, ◌/◌, ◌%◌, List, length, Result, Ok, Err, sym, ap, subst, arith}
+use Rattle.std.proofs.Common.{ℕ, ◌≡◌, ◌∙◌, ◌*◌, ◌/◌, ◌%◌, List, length, Result, Ok, Err, sym, ap, subst, arith}
 use Rattle.std.proofs.lemmas.Nat.{div-mul-add, mod-mul-add}
 use Rattle.dpx_align.specs.Aligner.{clocks_fed}
 use Rattle.dpx_align.specs.Faults.{NoFault, Symbols, cut}

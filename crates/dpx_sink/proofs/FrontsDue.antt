@@ -1,7 +1,7 @@
 -- What the words of a front of some bytes give is due of the bytes.
 use Rattle.std.proofs.Common.{ℕ, ◌≡◌, ◌∙◌, ◌<◌, ◌≤◌, ◌+◌, ◌*◌, ◌/◌, ◌%◌, inl, inr, List, [], ◌∷◌, ◌++◌, length, take, drop, Some, Err}
-use Rattle.std.proofs.Common.{refl, sym, ap, subst, arith, append-nil, length-append, length-take, length-map}
-use Rattle.std.proofs.lemmas.List.{take-append-drop}
+use Rattle.std.proofs.Common.{refl, sym, ap, subst, arith, append-nil, length-append, length-take}
+use Rattle.std.proofs.lemmas.List.{length-map, take-append-drop}
 use Rattle.std.proofs.lemmas.Nat.{div-mul-add, mod-mul-add}
 use Rattle.dpx_align.proofs.LaneSymbols.{bad_on}
 use Rattle.dpx_align.proofs.OneFault.{clock_once}
@@ -30,6 +30,7 @@ use Rattle.dpx_sink.specs.Reader.{Framing, HasBadWord, HasBadSet, HasReadWhole, 
 use Rattle.dpx_sink.specs.Receiver.{Feeds, end_of, output_told}
 use Rattle.dpx_sink.specs.Writes.{Sinks, Refused}
 use Rattle.dpx_sink.specs.declared.receiver.Receiver.{Receiver}
+use Rattle.dpx_sink.specs.declared.recv_end.RecvEnd.{RecvEnd}
 use Rattle.dpx_sink.specs.declared.refusal.Refusal.{Refusal}
 use Rattle.dpx_sink.specs.declared.refusal.Refusal.TheVariants.{Word, Set, Write}
 use Rattle.dpx_sink.specs.Told.{Under, none, Tally, after_all, frames_in}
@@ -245,8 +246,8 @@ part_due link bytes records text h =
 
 -- ---- by the answer
 
-pub refused_feeds : (r : Receiver) (link : Link) (before now : Sinks) (bytes p l : List ℕ) (refusal : Refusal)
-    → r.refused ≡ Some refusal
+refused_feeds : (r : Receiver) (link : Link) (before now : Sinks)
+    (bytes p l : List ℕ) (refusal : Refusal) → r.refused ≡ Some refusal
     → Refused before now p l (λ bad q m. InFront link (λ words. HasBadWord (framing_of link) words bad q m) bytes)
     (λ bad q m. InFront link (λ words. HasBadSet (framing_of link) words bad q m) bytes)
     (λ q m. InFront link (λ words. HasSome (framing_of link) words q m) bytes) refusal
@@ -255,5 +256,16 @@ refused_feeds r link before now bytes p l (Word bad) e w =
     wrote_so before now p l _ _ w (λ q m h. word_due link bytes bad q m h)
 refused_feeds r link before now bytes p l (Set bad) e w =
     wrote_so before now p l _ _ w (λ q m h. set_due link bytes bad q m h)
-refused_feeds r link before now bytes p l (Write failed) e w =
-    (failed, ap output_told e, front_so failed before now p l _ _ w (λ q m h. part_due link bytes q m h))
+refused_feeds r link before now bytes p l (Write output) e w =
+    (output, ap output_told e, front_so output before now p l _ _ w (λ q m h. part_due link bytes q m h))
+
+-- the same, for what callers see of the refusal
+pub seen_feeds : (r : Receiver) (link : Link) (before now : Sinks)
+    (bytes p l : List ℕ) (refusal : Refusal) (end : RecvEnd) → end ≡ end_of refusal → r.refused ≡ Some refusal
+    → Refused before now p l (λ bad q m. InFront link (λ words. HasBadWord (framing_of link) words bad q m) bytes)
+    (λ bad q m. InFront link (λ words. HasBadSet (framing_of link) words bad q m) bytes)
+    (λ q m. InFront link (λ words. HasSome (framing_of link) words q m) bytes) refusal
+    → Feeds r link before now bytes p l (Err end)
+seen_feeds r link before now bytes p l refusal end is e w =
+    subst (λ x. Feeds r link before now bytes p l (Err x)) (sym is)
+    (refused_feeds r link before now bytes p l refusal e w)

@@ -65,9 +65,8 @@ pub record StandsFor (r : Receiver) (bytes records text : List ℕ) : Type 0 whe
 
 -- What was written of these bytes, behind these records and this text, by the answer: all that is due of them, at their
 -- first fault too; where a write failed, a front of what is due of some of their first sets, and all of it at the other
--- output.
-abbrev pub Feeds : Receiver → Link → (before now : Sinks) → (bytes records text : List ℕ)
-    → Result ⊤ RecvEnd → Type 0
+-- output. At Ok the receiver stands for them.
+abbrev pub Feeds : Receiver → Link → (before now : Sinks) → (bytes records text : List ℕ) → Result ⊤ RecvEnd → Type 0
 Feeds r link before now bytes records text (Ok done) = Wrote before now records text (StandsFor r bytes)
 Feeds r link before now bytes records text (Err (Align bad)) =
     Wrote before now records text (Due link bytes (word_fault bad))

@@ -222,7 +222,7 @@ impl Clocks {
     /// The end, where nothing was refused.
     pub fn finish(&self) -> Result<Received, FinishEnd>
         requires ready { IsReady self.now }
-        ensures ends { (taken p l : List ℕ) → HasTaken self.now taken p l → EndsAs self.now.link taken result }
+        ensures { (taken p l : List ℕ) → HasTaken self.now taken p l → EndsAs self.now.link taken result }
     {
         if self.left.len() > 0 {
             return Err(FinishEnd::Truncated {
