@@ -1,12 +1,11 @@
 -- The end of bytes is one; and what is written of a capture that was sent.
 use Rattle.std.proofs.Common.{ℕ, ◌≡◌, ◌∙◌, ◌≤◌, ◌*◌, ◌++◌, List, Some, None, Result, Ok, Err, refl, sym, ap, subst, arith}
 use Rattle.std.proofs.Math.Nat.{mul-le-mul}
-use Rattle.dpx_base.specs.Capture.{IsCapture, header_bytes}
 use Rattle.dpx_base.specs.Plan.{PlanFacts, IsPlan}
 use Rattle.dpx_base.specs.declared.link.Link.{Link}
 use Rattle.dpx_base.specs.declared.pixel.Pixel.{Pixel}
 use Rattle.dpx_grammar.specs.Accepted.{Frame}
-use Rattle.dpx_inversion.specs.Laws.{AreWhole, sent_frames}
+use Rattle.dpx_inversion.specs.Laws.{sent_frames}
 use Rattle.dpx_parse.specs.Stands.{number_of}
 use Rattle.dpx_reception.proofs.FaultsStay.{faults_stay}
 use Rattle.dpx_reception.proofs.OneLock.{one_lock}

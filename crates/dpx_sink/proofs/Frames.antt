@@ -1,7 +1,7 @@
 -- What events tell is what their frames give.
 use Rattle.std.proofs.Common.{ℕ, ◌≡◌, ◌∙◌, ◌+◌, Bool, true, false, List, [], ◌∷◌, ◌++◌, length, refl, sym, ap, subst, arith, append_assoc}
 use Rattle.std.specs.Prelude.{if◌then◌else◌, ◌==◌}
-use Rattle.std.specs.List.{flat_map, filter, sum_by}
+use Rattle.std.specs.List.{flat_map, filter}
 use Rattle.std.proofs.lemmas.List.{append-nil}
 use Rattle.std.proofs.lemmas.List.Sums.{sum_by-cons}
 use Rattle.dpx_base.specs.declared.pixel.Pixel.{Pixel}
@@ -24,6 +24,7 @@ one_more false line lines rest = refl
 
 mutual
   unfolding records_due
+
   idle_gives : (lanes : ℕ) (a : MsaAttributes) (es : List Event)
       → records_told lanes (idle a) es
       ≡ flat_map pixel_records (lines_heard lanes a (heard es)) ++ records_due (frames_heard lanes (heard es))

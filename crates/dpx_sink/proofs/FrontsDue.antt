@@ -1,6 +1,6 @@
 -- What the words of a front of some bytes give is due of the bytes.
 use Rattle.std.proofs.Common.{ℕ, ◌≡◌, ◌∙◌, ◌<◌, ◌≤◌, ◌+◌, ◌*◌, ◌/◌, ◌%◌, inl, inr, List, [], ◌∷◌, ◌++◌, length, take, drop, Some, Err}
-use Rattle.std.proofs.Common.{refl, sym, ap, subst, arith, append-nil, length-append, length-take}
+use Rattle.std.proofs.Common.{sym, ap, subst, arith, append-nil, length-append, length-take}
 use Rattle.std.proofs.lemmas.List.{length-map, take-append-drop}
 use Rattle.std.proofs.lemmas.Nat.{div-mul-add, mod-mul-add}
 use Rattle.dpx_align.proofs.LaneSymbols.{bad_on}
@@ -24,9 +24,9 @@ use Rattle.dpx_reception.proofs.OneReception.{cut_row}
 use Rattle.dpx_reception.specs.Bytes.{clocks_in, left_over, received_words}
 use Rattle.dpx_reception.specs.Due.{records_due, lines_due, whole_frames, whole_lines, Due, PartlyDue}
 use Rattle.dpx_reception.specs.Reception.{AreSets, AreFirstSets, Gives, Fault, no_fault, word_fault, set_fault}
-use Rattle.dpx_reception.specs.Reception.{Reception, ReceivedUpTo}
+use Rattle.dpx_reception.specs.Reception.{Reception}
 use Rattle.dpx_sink.specs.Clocks.{HasTaken, InFront, IsCut, framing_of}
-use Rattle.dpx_sink.specs.Reader.{Framing, HasBadWord, HasBadSet, HasReadWhole, HasSome, Tell}
+use Rattle.dpx_sink.specs.Reader.{Framing, HasBadWord, HasBadSet, HasSome, Tell}
 use Rattle.dpx_sink.specs.Receiver.{Feeds, end_of, output_told}
 use Rattle.dpx_sink.specs.Writes.{Sinks, Refused}
 use Rattle.dpx_sink.specs.declared.receiver.Receiver.{Receiver}
@@ -66,11 +66,10 @@ counted_gives lanes bytes plain have (inl h) there =
         sets = there;
       },
     )
-counted_gives lanes bytes plain have (inr (clock, lane, f, s)) there =
-    (
-      clock,
-      record { no_fault = before_fault (received_words lanes bytes) clock lane f; plain = plain; symbols = s; sets = there },
-    )
+counted_gives lanes bytes plain have (inr (clock, lane, f, s)) there = (
+  clock,
+  record { no_fault = before_fault (received_words lanes bytes) clock lane f; plain = plain; symbols = s; sets = there },
+)
 
 -- those before the first word fault, where there is one
 word_gives : (words : List (List ℕ)) (bad : AlignBad) (plain : List (List Sym)) (have : (plain : List (List Sym)) → Type 0)

@@ -1,16 +1,12 @@
 -- Writes, one behind the other.
-use Rattle.std.proofs.Common.{ℕ, ◌∙◌, List, [], ◌++◌, sym, ap, subst, append_assoc, arith, refl, ◌≡◌, Option, Some, Result, Ok, Err}
-use Rattle.std.specs.Prelude.{⊤}
+use Rattle.std.proofs.Common.{ℕ, ◌∙◌, List, [], ◌++◌, sym, ap, subst, append_assoc, arith, Option, Result, Ok, Err}
 use Rattle.dpx_base.specs.Faults.{Rose}
 use Rattle.std.proofs.lemmas.List.{append-nil}
 use Rattle.std.specs.Io.KnownBytes.{Appends}
 use Rattle.dpx_align.specs.declared.align_bad.AlignBad.{AlignBad}
 use Rattle.dpx_parse.specs.declared.bad.ParseBad.{ParseBad}
 use Rattle.dpx_sink.specs.Writes.{AppendsFront, PixelsTook, LogTook, Sinks, Wrote, WroteFront, Refused, Went}
-use Rattle.dpx_sink.specs.Receiver.{end_of, output_told}
-use Rattle.dpx_sink.specs.Writes.{Calm, OneFailed, HasCause, WriteFails}
-use Rattle.dpx_sink.specs.declared.recv_end.RecvEnd.{RecvEnd}
-use Rattle.dpx_sink.specs.declared.recv_end.RecvEnd.TheVariants.{WriteFault}
+use Rattle.dpx_sink.specs.Writes.{Calm, OneFailed, HasCause}
 use Rattle.dpx_sink.specs.declared.output.Output.{Output}
 use Rattle.dpx_sink.specs.declared.output.Output.TheVariants.{Pixels, Log}
 use Rattle.dpx_sink.specs.declared.refusal.Refusal.{Refusal}
@@ -151,16 +147,3 @@ pub cause_on : (refusal : Refusal) (a b c : Sinks) → Calm a b → HasCause ref
 cause_on (Word bad) a b c calm f = calm_on a b c calm f
 cause_on (Set bad) a b c calm f = calm_on a b c calm f
 cause_on (Write failed) a b c calm f = failed_on failed a b c calm f
-
--- as callers see it
-pub calm_seen : (refusal : Refusal) (a b : Sinks) → HasCause refusal a b
-    → (◌≡◌ {A = Result ⊤ RecvEnd} (Err (end_of refusal)) (Err WriteFault) → ⊥) → Calm a b
-calm_seen (Word bad) a b h none = h
-calm_seen (Set bad) a b h none = h
-calm_seen (Write failed) a b h none = absurd (none refl)
-
-pub failure_seen : (refusal : Refusal) (a b : Sinks) → HasCause refusal a b
-    → ◌≡◌ {A = Result ⊤ RecvEnd} (Err (end_of refusal)) (Err WriteFault) → WriteFails (output_told (Some refusal)) a b
-failure_seen (Word bad) a b h is = absurd (cc)
-failure_seen (Set bad) a b h is = absurd (cc)
-failure_seen (Write failed) a b h is = h

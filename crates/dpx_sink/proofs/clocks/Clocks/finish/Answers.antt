@@ -7,8 +7,7 @@ use Rattle.dpx_sink.proofs.clocks.Clocks.finish.Goals as goal
 
 pub returns-then-len-gt0 : goal.returns-then-len-gt0
 returns-then-len-gt0 c = λ taken p l h.
-    let at = at_end c.args.self.now taken p l h in
-    (
+    let at = at_end c.args.self.now taken p l h in (
       omega (arith, at.1, c.if-len-gt0.true, c.len.ensures.value),
       c.len-then-len-gt0.ensures.value ∙ sym at.1,
       sym at.0,

@@ -1,4 +1,4 @@
-use Rattle.std.proofs.Common.{◌<◌, ℕ, [], sym, subst, refl, arith, ap, length}
+use Rattle.std.proofs.Common.{◌<◌, ℕ, [], sym, subst, arith, ap, length}
 use Rattle.dpx_base.specs.Lanes.{lanes_count}
 use Rattle.dpx_reception.proofs.Grown.{some_lanes}
 use Rattle.dpx_sink.specs.Clocks.{framing_of}

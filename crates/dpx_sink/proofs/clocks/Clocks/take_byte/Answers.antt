@@ -1,6 +1,5 @@
 use Rattle.std.proofs.Common.{◌≡◌, ◌∙◌, ◌<◌, ◌*◌, ◌/◌, ◌+◌, ◌++◌, ◌∷◌, ℕ, List, [], length, sym, ap, subst, arith}
 use Rattle.std.proofs.Common.{length-append}
-use Rattle.dpx_align.specs.Aligner.{clocks_fed}
 use Rattle.dpx_base.specs.Capture.{words_in}
 use Rattle.dpx_base.specs.Lanes.{lanes_count}
 use Rattle.dpx_lane.specs.Team.{joined}

@@ -1,5 +1,4 @@
 use Rattle.std.proofs.Common.{◌≡◌, ◌∙◌, ◌*◌, ◌/◌, ◌+◌, ◌++◌, ℕ, List, [], length, sym, ap, subst, arith, length-append, refl}
-use Rattle.dpx_align.specs.Aligner.{clocks_fed}
 use Rattle.dpx_base.specs.Capture.{words_in}
 use Rattle.dpx_base.specs.Lanes.{lanes_count}
 use Rattle.dpx_lane.specs.Team.{joined}
@@ -62,8 +61,12 @@ returns-clause-ready g c =
       short = ready.short;
       fed = omega (arith, c.batch.ensures.fed, clocks, ready.fed, same);
       few = few_clocks (c.args.self.now.clocks + length piece / c.wide.result) wide 0
-          (omega (arith, c.requires.few, bytes_on c.args.self.now.clocks (length piece / c.wide.result) wide
-          (length c.args.self.now.left.items) 0 (bytes_in c.args.self.now) (length piece) refl
-          (omega (arith, left, subst (λ k. length piece ≡ length piece / k * wide) (sym c.wide.ensures) whole))));
+          (omega (
+            arith,
+            c.requires.few,
+            bytes_on c.args.self.now.clocks (length piece / c.wide.result) wide
+                (length c.args.self.now.left.items) 0 (bytes_in c.args.self.now) (length piece) refl
+                (omega (arith, left, subst (λ k. length piece ≡ length piece / k * wide) (sym c.wide.ensures) whole)),
+          ));
       rests = rests;
     }) c.batch.ensures.rested
