@@ -5,20 +5,21 @@ use Rattle.std.proofs.lemmas.List.{append-nil}
 use Rattle.std.specs.Io.KnownBytes.{Appends}
 use Rattle.dpx_align.specs.declared.align_bad.AlignBad.{AlignBad}
 use Rattle.dpx_parse.specs.declared.bad.ParseBad.{ParseBad}
-use Rattle.dpx_sink.specs.Writes.{AppendsFront, PixelsTook, LogTook, Sinks, Wrote, WroteFront, Refused, Went}
-use Rattle.dpx_sink.specs.Writes.{Calm, OneFailed, HasCause}
+use Rattle.dpx_sink.specs.Writes.{PixelsTook, LogTook, Sinks, Wrote, WroteFront, Refused, Went}
+use Rattle.dpx_sink.specs.Writes.{Calm, OneFailed, LeavesCounts}
 use Rattle.dpx_sink.specs.declared.output.Output.{Output}
 use Rattle.dpx_sink.specs.declared.output.Output.TheVariants.{Pixels, Log}
 use Rattle.dpx_sink.specs.declared.refusal.Refusal.{Refusal}
 use Rattle.dpx_sink.specs.declared.refusal.Refusal.TheVariants.{Word, Set, Write}
-use Rattle.dpx_sink.proofs.Transfers.{Appends-more, Appends-none}
+use Rattle.dpx_base.specs.Transfer.{AppendsFront}
+use Rattle.dpx_base.proofs.Appending.{appends_more, appends_none}
 
 pub nothing_wrote : (s : Sinks) (p l : List ℕ) (R : List ℕ → List ℕ → Type 0) → R p l → Wrote s s p l R
 nothing_wrote s p l R r = record {
   more_records = [];
   more_text = [];
-  pix_took = Appends-none s.pix.taken;
-  log_took = Appends-none s.log.taken;
+  pix_took = appends_none s.pix.taken;
+  log_took = appends_none s.log.taken;
   so = subst (λ q. R q (l ++ [])) (sym (append-nil p)) (subst (λ m. R p m) (sym (append-nil l)) r);
 }
 
@@ -35,8 +36,8 @@ wrote_on a b c p l R S w next =
     record {
       more_records = w.more_records ++ v.more_records;
       more_text = w.more_text ++ v.more_text;
-      pix_took = Appends-more a.pix.taken b.pix.taken c.pix.taken w.more_records v.more_records w.pix_took v.pix_took;
-      log_took = Appends-more a.log.taken b.log.taken c.log.taken w.more_text v.more_text w.log_took v.log_took;
+      pix_took = appends_more a.pix.taken b.pix.taken c.pix.taken w.more_records v.more_records w.pix_took v.pix_took;
+      log_took = appends_more a.log.taken b.log.taken c.log.taken w.more_text v.more_text w.log_took v.log_took;
       so = both S p w.more_records v.more_records l w.more_text v.more_text v.so;
     }
 
@@ -46,17 +47,17 @@ front_behind a b c xs ys t f = record {
   front = xs ++ f.front;
   rest = f.rest;
   divided = ap (λ zs. xs ++ zs) f.divided ∙ sym (append_assoc xs f.front f.rest);
-  taken = Appends-more a b c xs f.front t f.taken;
+  taken = appends_more a b c xs f.front t f.taken;
 }
 
 pixels_behind : (failed : Output) (a b c : Option (List ℕ)) (xs ys : List ℕ) → Appends a b xs
     → PixelsTook failed b c ys → PixelsTook failed a c (xs ++ ys)
 pixels_behind Pixels a b c xs ys t f = front_behind a b c xs ys t f
-pixels_behind Log a b c xs ys t f = Appends-more a b c xs ys t f
+pixels_behind Log a b c xs ys t f = appends_more a b c xs ys t f
 
 log_behind : (failed : Output) (a b c : Option (List ℕ)) (xs ys : List ℕ) → Appends a b xs
     → LogTook failed b c ys → LogTook failed a c (xs ++ ys)
-log_behind Pixels a b c xs ys t f = Appends-more a b c xs ys t f
+log_behind Pixels a b c xs ys t f = appends_more a b c xs ys t f
 log_behind Log a b c xs ys t f = front_behind a b c xs ys t f
 
 -- some writes, and then a write that fails
@@ -143,7 +144,7 @@ calm_on : (a b c : Sinks) → Calm a b → Calm b c → Calm a c
 calm_on a b c h k = record { pix = k.pix ∙ h.pix; log = k.log ∙ h.log }
 
 -- no write failed, and then a refusal
-pub cause_on : (refusal : Refusal) (a b c : Sinks) → Calm a b → HasCause refusal b c → HasCause refusal a c
+pub cause_on : (refusal : Refusal) (a b c : Sinks) → Calm a b → LeavesCounts refusal b c → LeavesCounts refusal a c
 cause_on (Word bad) a b c calm f = calm_on a b c calm f
 cause_on (Set bad) a b c calm f = calm_on a b c calm f
 cause_on (Write failed) a b c calm f = failed_on failed a b c calm f

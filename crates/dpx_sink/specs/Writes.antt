@@ -4,6 +4,7 @@ use Rattle.std.specs.Io.KnownBytes.{Appends}
 use Rattle.dpx_align.specs.declared.align_bad.AlignBad.{AlignBad}
 use Rattle.dpx_base.specs.Faults.{Rose}
 use Rattle.dpx_base.specs.Seen.{SinkSeen}
+use Rattle.dpx_base.specs.Transfer.{AppendsFront}
 use Rattle.dpx_parse.specs.declared.bad.ParseBad.{ParseBad}
 use Rattle.dpx_sink.specs.declared.output.Output.{Output}
 use Rattle.dpx_sink.specs.declared.output.Output.TheVariants.{Pixels, Log}
@@ -17,13 +18,6 @@ pub record Sinks : Type 0 where
 
 abbrev pub sinks : SinkSeen → SinkSeen → Sinks
 sinks pix log = record { pix = pix; log = log }
-
--- a front of the bytes was taken
-pub record AppendsFront (before now : Option (List ℕ)) (bytes : List ℕ) : Type 0 where
-  pub front : List ℕ
-  pub rest : List ℕ
-  pub divided : bytes ≡ front ++ rest
-  pub taken : Appends before now front
 
 -- Behind these records and this text the sinks took some more of each, and of the whole of both R holds.
 pub record Wrote (before now : Sinks) (records text : List ℕ) (R : List ℕ → List ℕ → Type 0) : Type 0 where
@@ -67,10 +61,10 @@ OneFailed Pixels before now = HasFailed before.pix now.pix × (now.log.faults �
 OneFailed Log before now = HasFailed before.log now.log × (now.pix.faults ≡ before.pix.faults)
 
 -- what a refusal leaves of the counts
-abbrev pub HasCause : Refusal → (before now : Sinks) → Type 0
-HasCause (Word bad) before now = Calm before now
-HasCause (Set bad) before now = Calm before now
-HasCause (Write failed) before now = OneFailed failed before now
+abbrev pub LeavesCounts : Refusal → (before now : Sinks) → Type 0
+LeavesCounts (Word bad) before now = Calm before now
+LeavesCounts (Set bad) before now = Calm before now
+LeavesCounts (Write failed) before now = OneFailed failed before now
 
 -- there is an output that a write failed at
 abbrev pub WriteFails : Option Output → (before now : Sinks) → Type 0

@@ -5,7 +5,7 @@ ghost use Rattle.dpx_base.specs.Lanes.{lanes_count};
 ghost use Rattle.dpx_parse.specs.declared.bad.ParseBad.{ParseBad};
 ghost use Rattle.dpx_sink.specs.Clocks.{HasTaken, InFront, IsReady, framing_of, bytes_in};
 ghost use Rattle.dpx_sink.specs.Reader.{HasBadWord, HasBadSet, HasSome};
-ghost use Rattle.dpx_sink.specs.Writes.{Went, Calm, HasCause, sinks};
+ghost use Rattle.dpx_sink.specs.Writes.{Went, Calm, LeavesCounts, sinks};
 
 use crate::reader::Reader;
 use crate::refusal::Refusal;
@@ -84,7 +84,7 @@ impl Clocks {
         ensures fed { OnOk result (bytes_in self.new ≡ bytes_in self.old + length piece.now) }
         ensures calm { OnOk result (Calm (sinks (O.seen pix.old) (O.seen log.old))
             (sinks (O.seen pix.new) (O.seen log.new))) }
-        ensures cause { IfErr result (λ refusal. HasCause refusal (sinks (O.seen pix.old) (O.seen log.old))
+        ensures cause { IfErr result (λ refusal. LeavesCounts refusal (sinks (O.seen pix.old) (O.seen log.old))
             (sinks (O.seen pix.new) (O.seen log.new))) }
     {
         self.clocks += (piece.len() / self.wide()) as u64;
@@ -119,7 +119,7 @@ impl Clocks {
         ensures fed { OnOk result (bytes_in self.new ≡ bytes_in self.old + 1) }
         ensures calm { OnOk result (Calm (sinks (O.seen pix.old) (O.seen log.old))
             (sinks (O.seen pix.new) (O.seen log.new))) }
-        ensures cause { IfErr result (λ refusal. HasCause refusal (sinks (O.seen pix.old) (O.seen log.old))
+        ensures cause { IfErr result (λ refusal. LeavesCounts refusal (sinks (O.seen pix.old) (O.seen log.old))
             (sinks (O.seen pix.new) (O.seen log.new))) }
     {
         self.left.push(byte);
@@ -162,7 +162,7 @@ impl Clocks {
         ensures fed { IfOk result (λ n. bytes_in self.new ≡ bytes_in self.old + n) }
         ensures calm { OnOk result (Calm (sinks (O.seen pix.old) (O.seen log.old))
             (sinks (O.seen pix.new) (O.seen log.new))) }
-        ensures cause { IfErr result (λ refusal. HasCause refusal (sinks (O.seen pix.old) (O.seen log.old))
+        ensures cause { IfErr result (λ refusal. LeavesCounts refusal (sinks (O.seen pix.old) (O.seen log.old))
             (sinks (O.seen pix.new) (O.seen log.new))) }
     {
         let wide = self.wide();
@@ -206,7 +206,7 @@ impl Clocks {
         ensures fed { OnOk result (bytes_in self.new ≡ bytes_in self.old + length bytes.now) }
         ensures calm { OnOk result (Calm (sinks (O.seen pix.old) (O.seen log.old))
             (sinks (O.seen pix.new) (O.seen log.new))) }
-        ensures cause { IfErr result (λ refusal. HasCause refusal (sinks (O.seen pix.old) (O.seen log.old))
+        ensures cause { IfErr result (λ refusal. LeavesCounts refusal (sinks (O.seen pix.old) (O.seen log.old))
             (sinks (O.seen pix.new) (O.seen log.new))) }
     {
         let mut start = 0;

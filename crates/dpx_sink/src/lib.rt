@@ -1,7 +1,7 @@
 //! The receiver: from a capture's bytes, in any pieces, to records of pixels and lines of attributes.
 //!
 //! * `recv_end`, `finish_end`: how it ends; `output`, `refusal`: which write failed, and why nothing more is taken
-//! * `write`: whole writes; `attributes_line`: the text of attributes
+//! * `attributes_line`: the text of attributes
 //! * `line_store`, `unpack`: the line under way, and its pixels' records
 //! * `lines`: what events give; `reader`: from words to what is written
 //! * `clocks`: from bytes in any pieces to whole clocks; `receiver`: the first refusal is kept
@@ -20,7 +20,6 @@ mod receiver;
 mod recv_end;
 mod refusal;
 mod unpack;
-mod write;
 
 pub use finish_end::{FinishEnd, Received};
 pub use laws::{a_capture_is_received, one_end};

@@ -9,7 +9,7 @@ ghost use Rattle.dpx_parse.specs.Parser.{enhanced_of};
 ghost use Rattle.dpx_parse.specs.Parser as parser;
 ghost use Rattle.dpx_sink.specs.Reader.{Framing, HasRead, IsNext, HasReadWhole, HasBadWord, HasBadSet, HasSome, Agrees};
 ghost use Rattle.dpx_sink.specs.Reader.{ReadEnds};
-ghost use Rattle.dpx_sink.specs.Writes.{Went, Calm, HasCause, sinks};
+ghost use Rattle.dpx_sink.specs.Writes.{Went, Calm, LeavesCounts, sinks};
 
 use crate::lines::Lines;
 use crate::refusal::Refusal;
@@ -58,7 +58,7 @@ impl Reader {
         ensures aligner { self.new.aligner ≡ self.old.aligner }
         ensures calm { OnOk result (Calm (sinks (O.seen pix.old) (O.seen log.old))
             (sinks (O.seen pix.new) (O.seen log.new))) }
-        ensures cause { IfErr result (λ refusal. HasCause refusal (sinks (O.seen pix.old) (O.seen log.old))
+        ensures cause { IfErr result (λ refusal. LeavesCounts refusal (sinks (O.seen pix.old) (O.seen log.old))
             (sinks (O.seen pix.new) (O.seen log.new))) }
     {
         match self.parser.feed(set) {
@@ -86,7 +86,7 @@ impl Reader {
         ensures fed { clocks_fed self.new.aligner ≡ clocks_fed self.old.aligner }
         ensures calm { OnOk result (Calm (sinks (O.seen pix.old) (O.seen log.old))
             (sinks (O.seen pix.new) (O.seen log.new))) }
-        ensures cause { IfErr result (λ refusal. HasCause refusal (sinks (O.seen pix.old) (O.seen log.old))
+        ensures cause { IfErr result (λ refusal. LeavesCounts refusal (sinks (O.seen pix.old) (O.seen log.old))
             (sinks (O.seen pix.new) (O.seen log.new))) }
     {
         let step = match self.aligner.step() {
@@ -116,7 +116,7 @@ impl Reader {
         ensures fed { clocks_fed self.new.aligner ≡ clocks_fed self.old.aligner }
         ensures calm { OnOk result (Calm (sinks (O.seen pix.old) (O.seen log.old))
             (sinks (O.seen pix.new) (O.seen log.new))) }
-        ensures cause { IfErr result (λ refusal. HasCause refusal (sinks (O.seen pix.old) (O.seen log.old))
+        ensures cause { IfErr result (λ refusal. LeavesCounts refusal (sinks (O.seen pix.old) (O.seen log.old))
             (sinks (O.seen pix.new) (O.seen log.new))) }
     {
         let mut more = true;
@@ -155,7 +155,7 @@ impl Reader {
         ensures fed { clocks_fed self.new.aligner ≡ clocks_fed self.old.aligner + rows.old.clocks }
         ensures calm { OnOk result (Calm (sinks (O.seen pix.old) (O.seen log.old))
             (sinks (O.seen pix.new) (O.seen log.new))) }
-        ensures cause { IfErr result (λ refusal. HasCause refusal (sinks (O.seen pix.old) (O.seen log.old))
+        ensures cause { IfErr result (λ refusal. LeavesCounts refusal (sinks (O.seen pix.old) (O.seen log.old))
             (sinks (O.seen pix.new) (O.seen log.new))) }
     {
         self.aligner.feed(rt, rows, workers, gate);
