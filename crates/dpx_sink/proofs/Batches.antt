@@ -1,5 +1,6 @@
 -- A batch of whole clocks behind those before it: what was left of an unfinished clock, and a piece behind it.
-use Rattle.std.proofs.Common.{ℕ, ◌≡◌, ◌∙◌, ◌<◌, ◌+◌, ◌*◌, ◌/◌, ◌%◌, List, [], ◌++◌, length, sym, ap, subst, append_assoc, arith, refl, Result, Ok, Err}
+use Rattle.std.proofs.Common.{ℕ, ◌≡◌, ◌∙◌, ◌<◌, ◌+◌, ◌*◌, ◌/◌, ◌%◌, List, [], ◌++◌, length, sym, ap, subst}
+use Rattle.std.proofs.Common.{append_assoc, arith, refl, Result, Ok, Err}
 use Rattle.std.specs.Prelude.{OnOk}
 use Rattle.std.proofs.Common.{◌∷◌, ◌-◌, ◌^◌, get_or, take, drop, inl, inr}
 use Rattle.std.proofs.Math.Nat.{mul-le-mul_right}

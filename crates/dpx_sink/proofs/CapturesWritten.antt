@@ -1,5 +1,6 @@
 -- The end of bytes is one; and what is written of a capture that was sent.
-use Rattle.std.proofs.Common.{ℕ, ◌≡◌, ◌∙◌, ◌≤◌, ◌*◌, ◌++◌, List, Some, None, Result, Ok, Err, refl, sym, ap, subst, arith}
+use Rattle.std.proofs.Common.{ℕ, ◌≡◌, ◌∙◌, ◌≤◌, ◌*◌, ◌++◌, List, Some, None, Result, Ok, Err, refl, sym, ap, subst}
+use Rattle.std.proofs.Common.{arith}
 use Rattle.std.proofs.Math.Nat.{mul-le-mul}
 use Rattle.dpx_base.specs.Plan.{PlanFacts, IsPlan}
 use Rattle.dpx_base.specs.declared.link.Link.{Link}

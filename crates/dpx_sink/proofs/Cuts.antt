@@ -1,5 +1,6 @@
 -- Bytes in any cuts.
-use Rattle.std.proofs.Common.{ℕ, ◌≡◌, ◌∙◌, ◌<◌, ◌+◌, ◌*◌, ◌/◌, List, [], ◌∷◌, ◌++◌, length, sym, ap, arith, append_assoc, length-append}
+use Rattle.std.proofs.Common.{ℕ, ◌≡◌, ◌∙◌, ◌<◌, ◌+◌, ◌*◌, ◌/◌, List, [], ◌∷◌, ◌++◌, length, sym, ap, arith}
+use Rattle.std.proofs.Common.{append_assoc, length-append}
 use Rattle.std.proofs.Common.{get_or, drop, map, length-drop}
 use Rattle.std.proofs.Math.Nat.{add-mul-div_left}
 use Rattle.std.proofs.lemmas.List.{append-nil, ext_get_or, get_or-append-add, get_or-map, get_or-drop, length-map}

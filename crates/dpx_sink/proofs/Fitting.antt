@@ -1,10 +1,12 @@
 -- Attributes that were read have a size for which there is room.
-use Rattle.std.proofs.Common.{ℕ, ◌≡◌, ◌≤◌, Bool, true, false, List, [], ◌∷◌, length, Option, Some, None, refl, sym, subst}
+use Rattle.std.proofs.Common.{ℕ, ◌≡◌, ◌≤◌, Bool, true, false, List, [], ◌∷◌, length, Option, Some, None, refl, sym}
+use Rattle.std.proofs.Common.{subst}
 use Rattle.std.specs.Prelude.{if◌then◌else◌, ◌==◌, ◌&&◌, not, is_some, nat_le, reverse}
 use Rattle.std.proofs.lemmas.Bool.{leb-true}
 use Rattle.dpx_base.specs.RawMode.{is_within}
 use Rattle.dpx_base.specs.declared.sym.Sym.{Sym}
-use Rattle.dpx_msa.specs.Reading.{read_attributes, answered, attributes_in, first_refusal, width, height, colour, misc0, misc1, depth_code}
+use Rattle.dpx_msa.specs.Reading.{read_attributes, answered, attributes_in, first_refusal, width, height, colour}
+use Rattle.dpx_msa.specs.Reading.{misc0, misc1, depth_code}
 use Rattle.dpx_msa.specs.declared.msa_bad.MsaBad.{MsaBad}
 use Rattle.dpx_msa.specs.declared.msa_bad.MsaBad.TheVariants.{Colour, DepthCode, Misc1, Width, Height}
 use Rattle.dpx_grammar.specs.Parts.{Part, group, block, filler, attributes, secondary, begins, valid, stuffing}

@@ -1,5 +1,6 @@
 -- What a reader's parts stand for, step by step.
-use Rattle.std.proofs.Common.{ℕ, ◌≡◌, ◌∙◌, ◌+◌, Bool, List, [], ◌∷◌, ◌++◌, subst, sym, ap, arith, length-append, Option, Some, None, Ok, inl, inr, slice_get}
+use Rattle.std.proofs.Common.{ℕ, ◌≡◌, ◌∙◌, ◌+◌, Bool, List, [], ◌∷◌, ◌++◌, subst, sym, ap, arith, length-append}
+use Rattle.std.proofs.Common.{Option, Some, None, Ok, inl, inr, slice_get}
 use Rattle.dpx_align.specs.Aligner.{WasFed, IsFaultOf, CountedTo, Answers, NoSet, sets_given, given_after, place_of}
 use Rattle.dpx_align.specs.Aligner.{is_enhanced, lanes_of as aligner_lanes}
 use Rattle.dpx_align.specs.declared.step.Step.{Step}

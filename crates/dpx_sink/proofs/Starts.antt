@@ -1,5 +1,6 @@
 -- Before any byte.
-use Rattle.std.proofs.Common.{ℕ, zero, suc, ◌≡◌, ◌∙◌, ◌<◌, ◌+◌, ◌/◌, ◌*◌, Bool, List, [], ◌∷◌, map, length, replicate, slice_get, Some, refl, sym, ap, arith}
+use Rattle.std.proofs.Common.{ℕ, zero, suc, ◌≡◌, ◌∙◌, ◌<◌, ◌+◌, ◌/◌, ◌*◌, Bool, List, [], ◌∷◌, map, length, replicate}
+use Rattle.std.proofs.Common.{slice_get, Some, refl, sym, ap, arith}
 use Rattle.std.specs.List.{range_with_len}
 use Rattle.std.proofs.lemmas.List.{length-replicate}
 use Rattle.dpx_align.specs.Faults.{NoFault}

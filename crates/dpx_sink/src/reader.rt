@@ -1,4 +1,5 @@
-ghost use Rattle.std.specs.Prelude.{◌≡◌, ◌≢◌, ◌≤◌, ◌<◌, ◌+◌, ◌*◌, ◌^◌, ℕ, List, [], ◌∷◌, ◌++◌, Bool, true, false, Ok, Err, length};
+ghost use Rattle.std.specs.Prelude.{◌≡◌, ◌≢◌, ◌≤◌, ◌<◌, ◌+◌, ◌*◌, ◌^◌, ℕ, List, [], ◌∷◌, ◌++◌, Bool, true, false, Ok};
+ghost use Rattle.std.specs.Prelude.{Err, length};
 ghost use Rattle.std.specs.Prelude.{IfErr, IfOk, OnOk, replicate};
 ghost use Rattle.dpx_align.specs.Aligner.{lanes_of, is_enhanced, clocks_fed, CanFeed, waiting};
 ghost use Rattle.dpx_align.specs.declared.align_bad.AlignBad.{AlignBad};

@@ -4,7 +4,8 @@ use Rattle.dpx_pack.proofs.Spans.{span-none, span-same, length-span}
 use Rattle.dpx_pack.proofs.Turns.{pixels_of_first, first_and_next, no_pixel_more, one_pixel_more}
 use Rattle.dpx_pack.specs.Lanes.{whole_pixel_count}
 use Rattle.dpx_sink.specs.Columns.{column, symbol_in}
-use Rattle.dpx_sink.proofs.Columns.{lane_symbols, length_symbols, symbol_there, within, pixel_within, pixel_same, one_more}
+use Rattle.dpx_sink.proofs.Columns.{lane_symbols, length_symbols, symbol_there, within, pixel_within, pixel_same}
+use Rattle.dpx_sink.proofs.Columns.{one_more}
 use Rattle.dpx_sink.proofs.unpack.unpack_lane.Goals as goal
 use Rattle.dpx_sink.proofs.unpack.unpack_lane.Goals.{in-Some, in_default}
 

@@ -7,7 +7,8 @@ use Rattle.dpx_reception.proofs.Grown.{some_lanes}
 use Rattle.dpx_reception.specs.Bytes.{received_words}
 use Rattle.dpx_sink.specs.Clocks.{IsCut, framing_of}
 use Rattle.dpx_sink.specs.Reader.{HasReadWhole, HasBadWord, HasBadSet, HasSome}
-use Rattle.dpx_sink.proofs.Batches.{batch_words, has_read, cut_on, read_on, in_front, on_ok, bytes_on, few_clocks, one_more, one_clock}
+use Rattle.dpx_sink.proofs.Batches.{batch_words, has_read, cut_on, read_on, in_front, on_ok, bytes_on, few_clocks}
+use Rattle.dpx_sink.proofs.Batches.{one_more, one_clock}
 use Rattle.dpx_sink.proofs.Cuts.{kept_byte}
 use Rattle.dpx_sink.proofs.Writes.{nothing_wrote, went_map}
 use Rattle.dpx_sink.proofs.clocks.Clocks.take_byte.Goals as goal

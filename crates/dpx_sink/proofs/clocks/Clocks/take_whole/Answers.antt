@@ -1,11 +1,13 @@
-use Rattle.std.proofs.Common.{◌≡◌, ◌∙◌, ◌*◌, ◌/◌, ◌+◌, ◌++◌, ℕ, List, [], length, sym, ap, subst, arith, length-append, refl}
+use Rattle.std.proofs.Common.{◌≡◌, ◌∙◌, ◌*◌, ◌/◌, ◌+◌, ◌++◌, ℕ, List, [], length, sym, ap, subst, arith}
+use Rattle.std.proofs.Common.{length-append, refl}
 use Rattle.dpx_base.specs.Capture.{words_in}
 use Rattle.dpx_base.specs.Lanes.{lanes_count}
 use Rattle.dpx_lane.specs.Team.{joined}
 use Rattle.dpx_reception.specs.Bytes.{received_words}
 use Rattle.dpx_sink.specs.Clocks.{IsCut, framing_of, bytes_in}
 use Rattle.dpx_sink.specs.Reader.{HasReadWhole, HasBadWord, HasBadSet, HasSome}
-use Rattle.dpx_sink.proofs.Batches.{batch_words, whole_clocks, has_read, cut_on, read_on, in_front, on_ok, bytes_on, few_clocks}
+use Rattle.dpx_sink.proofs.Batches.{batch_words, whole_clocks, has_read, cut_on, read_on, in_front, on_ok, bytes_on}
+use Rattle.dpx_sink.proofs.Batches.{few_clocks}
 use Rattle.dpx_sink.proofs.Writes.{went_map}
 use Rattle.dpx_sink.proofs.clocks.Clocks.take_whole.Goals as goal
 
