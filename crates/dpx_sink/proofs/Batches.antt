@@ -20,7 +20,8 @@ use Rattle.dpx_sink.specs.declared.reader.Reader.{Reader}
 use Rattle.dpx_sink.proofs.Cuts.{whole_piece, words_more}
 
 -- the words that rows take of a batch
-pub batch_words : (lanes : ℕ) (piece : List ℕ) → words_in lanes (length piece / (2 * lanes)) piece ≡ received_words lanes piece
+pub batch_words : (lanes : ℕ) (piece : List ℕ)
+    → words_in lanes (length piece / (2 * lanes)) piece ≡ received_words lanes piece
 unfolding received_words clocks_in
 batch_words lanes piece = refl
 
@@ -43,7 +44,8 @@ has_read f r words p l h = record {
 
 module _ (link : Link) (n : ℕ) (bytes done left piece : List ℕ) (cut : IsCut (lanes_count link.lanes) bytes done left)
     (e : length (left ++ piece) ≡ n * (2 * lanes_count link.lanes)) where
-  pub same_words : joined (received_words (lanes_count link.lanes) done) (received_words (lanes_count link.lanes) (left ++ piece))
+  pub same_words : joined (received_words (lanes_count link.lanes) done)
+      (received_words (lanes_count link.lanes) (left ++ piece))
       ≡ received_words (lanes_count link.lanes) (done ++ (left ++ piece))
   same_words = words_more (lanes_count link.lanes) cut.clocks done (left ++ piece) (some_lanes link.lanes) cut.whole
 
@@ -52,12 +54,14 @@ module _ (link : Link) (n : ℕ) (bytes done left piece : List ℕ) (cut : IsCut
 
   pub read_on : (r : Reader) (p l : List ℕ)
       → HasReadWhole (framing_of link) r
-      (joined (received_words (lanes_count link.lanes) done) (received_words (lanes_count link.lanes) (left ++ piece))) p l
+      (joined (received_words (lanes_count link.lanes) done)
+      (received_words (lanes_count link.lanes) (left ++ piece))) p l
       → HasReadWhole (framing_of link) r (received_words (lanes_count link.lanes) (done ++ (left ++ piece))) p l
   read_on r p l h = subst (λ w. HasReadWhole (framing_of link) r w p l) same_words h
 
   pub in_front : (P : List (List ℕ) → Type 0)
-      → P (joined (received_words (lanes_count link.lanes) done) (received_words (lanes_count link.lanes) (left ++ piece)))
+      → P (joined (received_words (lanes_count link.lanes) done)
+      (received_words (lanes_count link.lanes) (left ++ piece)))
       → InFront link P (bytes ++ piece)
   in_front P h = record {
     front = done ++ (left ++ piece);
@@ -125,7 +129,8 @@ front_all link P taken bytes n h =
 
 -- the bytes before a place, and then some from it on
 pub go_on : (taken bytes : List ℕ) (start n : ℕ)
-    → (taken ++ take start bytes) ++ take n (take (length bytes - start) (drop start bytes)) ≡ taken ++ take (start + n) bytes
+    → (taken ++ take start bytes) ++ take n (take (length bytes - start) (drop start bytes)) ≡ taken ++ take
+    (start + n) bytes
 go_on taken bytes start n =
     ap (λ xs. (taken ++ take start bytes) ++ take n xs) (take_rest bytes start)
     ∙ (append_assoc taken (take start bytes) (take n (drop start bytes))

@@ -97,6 +97,7 @@ words_more lanes n xs ys some e =
     (size ∙ (number ∙ sym (received_number lanes ys)))
     (λ lane k.
     let i : lane < lanes = omega (arith, k, size, number) in
-    get_or-map (λ (r : List ℕ). drop n r) all lane [] [] (omega (arith, i, number)) ∙ lane_rest lanes n xs ys lane i e) in
+    get_or-map (λ (r : List ℕ). drop n r) all lane [] [] (omega (arith, i, number))
+    ∙ lane_rest lanes n xs ys lane i e) in
     ap (λ x. joined x (received_words lanes ys)) (sym front)
     ∙ (ap (λ x. joined (cut n all) x) (sym rest) ∙ cut_joined n all)

@@ -38,7 +38,8 @@ counted_of c bytes records text h plain received none symbols k =
     let lanes = lanes_count c.link.lanes in
     let words = received_words lanes bytes in
     let f = frames_told (framing_of c.link) k.sets k.records k.text k.under k.tally k.tell in
-    let whole : cut (clocks_in lanes bytes) words ≡ words = whole_same lanes bytes (clocks_in lanes bytes) (omega arith) in
+    let whole : cut (clocks_in lanes bytes) words ≡ words =
+    whole_same lanes bytes (clocks_in lanes bytes) (omega arith) in
     record {
       frames = f.frames;
       tail = f.tail;
@@ -60,7 +61,8 @@ counted_of c bytes records text h plain received none symbols k =
 -- the end of the words that were read is that of the bytes
 pub read_ends : (c : Clocks) (bytes records text : List ℕ) (h : HasTaken c bytes records text)
     (result : Result Received FinishEnd) → length c.left.items ≡ 0 → clocks_fed c.reader.aligner ≡ c.clocks
-    → ReadEnds (framing_of c.link) (received_words (lanes_count c.link.lanes) h.done) (clocks_fed c.reader.aligner) result
+    → ReadEnds (framing_of c.link) (received_words (lanes_count c.link.lanes) h.done)
+    (clocks_fed c.reader.aligner) result
     → EndsAs c.link bytes result
 read_ends c bytes records text h (Err (Truncated clock left)) none fed r = absurd r
 read_ends c bytes records text h (Err (NoLock stood)) none fed (plain, symbols, lock, stood_is) =

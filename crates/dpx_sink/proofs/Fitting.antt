@@ -22,7 +22,8 @@ chosen : (b : Bool) (e f : Event) → Fits e → Fits f → Fits (if b then e el
 chosen true e f h k = h
 chosen false e f h k = k
 
-passed : (b : Bool) (bad : MsaBad) (rest : Option MsaBad) → (if not b then Some bad else rest) ≡ None → (b ≡ true) × (rest ≡ None)
+passed : (b : Bool) (bad : MsaBad) (rest : Option MsaBad) → (if not b then Some bad else rest) ≡ None → (b ≡ true)
+    × (rest ≡ None)
 passed true bad rest e = (refl, e)
 passed false bad rest e = absurd (cc)
 
@@ -53,7 +54,8 @@ read bytes = read_by bytes (first_refusal bytes) refl
 
 newest : (lanes : ℕ) (parts : List Part) → Fits (newest_event lanes parts)
 newest lanes [] = tt
-newest lanes (group reset ∷ before) = chosen (is_some (in_force lanes before) && is_live before) event.LineEnd event.Nothing tt tt
+newest lanes (group reset ∷ before) =
+    chosen (is_some (in_force lanes before) && is_live before) event.LineEnd event.Nothing tt tt
 newest lanes (block rows ∷ before) = tt
 newest lanes (filler row ∷ before) = tt
 newest lanes (attributes rows ∷ before) = read (gathered lanes rows)
@@ -62,7 +64,8 @@ newest lanes (begins ∷ before) = chosen (is_some (in_force lanes before)) even
 newest lanes (valid row ∷ before) = chosen (is_some (in_force lanes before)) (event.Valid row) event.Nothing tt tt
 newest lanes (stuffing rows ∷ before) = tt
 
-pub fits : (en : Bool) (lanes : ℕ) (sets : List (List Sym)) (set : List Sym) (e : Event) → IsEvent en lanes sets set e → Fits e
+pub fits : (en : Bool) (lanes : ℕ) (sets : List (List Sym)) (set : List Sym) (e : Event) → IsEvent en lanes sets set e
+    → Fits e
 fits en lanes sets set e i =
     subst Fits (sym i.event_is)
     (chosen (length (reverse i.new) == length (reverse i.old)) event.Nothing (newest_event lanes (reverse i.new)) tt

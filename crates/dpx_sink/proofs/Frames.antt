@@ -61,7 +61,8 @@ mutual
       ++ (flat_map pixel_records (lines_heard lanes a (heard es)) ++ records_due (frames_heard lanes (heard es))))
       (sym (append-nil rows))
 
-pub none_gives : (lanes : ℕ) (es : List Event) → records_told lanes none es ≡ records_due (frames_heard lanes (heard es))
+pub none_gives : (lanes : ℕ) (es : List Event)
+    → records_told lanes none es ≡ records_due (frames_heard lanes (heard es))
 unfolding records_due
 none_gives lanes [] = refl
 none_gives lanes (Nothing ∷ es) = none_gives lanes es
@@ -161,7 +162,8 @@ frame_begins lanes under t a b es h =
     )
 
 -- the same, by another number of lines
-counts_by : (lanes : ℕ) (under : Under) (t : Tally) (a : MsaAttributes) (more other : ℕ) (es : List Event) → more ≡ other
+counts_by : (lanes : ℕ) (under : Under) (t : Tally) (a : MsaAttributes) (more other : ℕ) (es : List Event)
+    → more ≡ other
     → CountsTo lanes under t a more es → CountsTo lanes under t a other es
 counts_by lanes under t a more other es e h = subst (λ n. CountsTo lanes under t a n es) e h
 

@@ -49,7 +49,8 @@ before_fault words clock lane f other before within bad =
     let own : BadAt (take clock row) before =
     subst (λ (x : List ℕ). BadAt x before) (cut_row clock words other i) bad in
     let all : BadAt row before =
-    subst (λ (x : List ℕ). BadAt x before) (take-append-drop clock row) (bad_on (take clock row) (drop clock row) before own) in
+    subst (λ (x : List ℕ). BadAt x before) (take-append-drop clock row)
+    (bad_on (take clock row) (drop clock row) before own) in
     f.least other before i (omega (arith, own.within, length-take clock row)) all
 
 -- the symbols that count are those of some first clocks
@@ -58,7 +59,8 @@ counted_gives : (lanes : ℕ) (bytes : List ℕ) (plain : List (List Sym)) (have
     → (clocks : ℕ) × Gives (received_words lanes bytes) clocks have
 counted_gives lanes bytes plain have (inl h) there =
     let words = received_words lanes bytes in
-    let same : cut (clocks_in lanes bytes) words ≡ words = whole_same lanes bytes (clocks_in lanes bytes) (omega arith) in (
+    let same : cut (clocks_in lanes bytes) words ≡ words =
+    whole_same lanes bytes (clocks_in lanes bytes) (omega arith) in (
       clocks_in lanes bytes,
       record {
         no_fault = subst (λ (x : List (List ℕ)). NoFault x) (sym same) h.0;
@@ -69,11 +71,18 @@ counted_gives lanes bytes plain have (inl h) there =
     )
 counted_gives lanes bytes plain have (inr (clock, lane, f, s)) there = (
   clock,
-  record { no_fault = before_fault (received_words lanes bytes) clock lane f; plain = plain; symbols = s; sets = there },
+  record {
+    no_fault = before_fault (received_words lanes bytes) clock lane f;
+    plain = plain;
+    symbols = s;
+    sets =
+        there;
+  },
 )
 
 -- those before the first word fault, where there is one
-word_gives : (words : List (List ℕ)) (bad : AlignBad) (plain : List (List Sym)) (have : (plain : List (List Sym)) → Type 0)
+word_gives : (words : List (List ℕ)) (bad : AlignBad) (plain : List (List Sym))
+    (have : (plain : List (List Sym)) → Type 0)
     → IsFirstFault words bad → Counted words plain → have plain → Gives words (place_of bad).clock have
 word_gives words bad plain have f (inl h) there =
     absurd (h.0 (place_of bad).lane (place_of bad).clock f.fault.within f.fault.bad)
@@ -123,7 +132,8 @@ pub clocks_kept : (lanes n : ℕ) (done left : List ℕ) → length done ≡ n *
     → (clocks_in lanes (done ++ left) ≡ n) × (left_over lanes (done ++ left) ≡ length left)
 unfolding clocks_in left_over
 clocks_kept lanes n done left whole short =
-    let e : length (done ++ left) ≡ n * (2 * lanes) + length left = length-append done left ∙ ap (λ k. k + length left) whole in (
+    let e : length (done ++ left) ≡ n * (2 * lanes) + length left = length-append done left
+    ∙ ap (λ k. k + length left) whole in (
       ap (λ k. k / (2 * lanes)) e ∙ div-mul-add n (2 * lanes) (length left) short,
       ap (λ k. k % (2 * lanes)) e ∙ mod-mul-add n (2 * lanes) (length left) short,
     )
@@ -183,7 +193,8 @@ stays : (link : Link) (bytes front rest : List ℕ) (fault : Fault) (frames : Li
     → bytes ≡ front ++ rest → (fault ≡ no_fault → ⊥) → Reception link front fault frames tail
     → Reception link bytes fault frames tail
 stays link bytes front rest fault frames tail e bad r =
-    subst (λ (x : List ℕ). Reception link x fault frames tail) (sym e) (faults_stay link front rest fault frames tail bad r)
+    subst (λ (x : List ℕ). Reception link x fault frames tail) (sym e)
+    (faults_stay link front rest fault frames tail bad r)
 
 pub word_due : (link : Link) (bytes : List ℕ) (bad : AlignBad) (records text : List ℕ)
     → InFront link (λ words. HasBadWord (framing_of link) words bad records text) bytes

@@ -25,7 +25,8 @@ one_record p = append-nil (pixel_record p)
 
 pub no_turns : (lane_pixels : ℕ → List Pixel) (lanes : ℕ) → pixel_records (in_turns lane_pixels lanes 0) ≡ []
 unfolding in_turns pixel_records
-no_turns lane_pixels lanes = ap (flat_map pixel_record) (span-none (λ x. get_or (lane_pixels (x % lanes)) (x / lanes) black) 0)
+no_turns lane_pixels lanes =
+    ap (flat_map pixel_record) (span-none (λ x. get_or (lane_pixels (x % lanes)) (x / lanes) black) 0)
 
 -- one more pixel in its turn
 pub one_turn_more : (lane_pixels : ℕ → List Pixel) (lanes x : ℕ)
@@ -35,7 +36,8 @@ unfolding in_turns
 one_turn_more lane_pixels lanes x =
     let f : ℕ → Pixel = λ y. get_or (lane_pixels (y % lanes)) (y / lanes) black in
     ap pixel_records (span-more f 0 x)
-    ∙ (records_append (span f 0 x) (f (0 + x) ∷ []) ∙ ap (λ xs. pixel_records (span f 0 x) ++ xs) (single (f (0 + x)) ∙ ap (λ y. pixel_record (f y)) (omega arith)))
+    ∙ (records_append (span f 0 x) (f (0 + x) ∷ [])
+    ∙ ap (λ xs. pixel_records (span f 0 x) ++ xs) (single (f (0 + x)) ∙ ap (λ y. pixel_record (f y)) (omega arith)))
   where
     single : (p : Pixel) → pixel_records (p ∷ []) ≡ pixel_record p
     single p = one_record p

@@ -36,7 +36,8 @@ abbrev pub LogTook : (failed : Output) → (before now : Option (List ℕ)) → 
 LogTook Pixels before now bytes = Appends before now bytes
 LogTook Log before now bytes = AppendsFront before now bytes
 
--- Behind them some more records and some more text were to be written, of the whole of both R holds, and a write failed.
+-- Behind them some more records and some more text were to be written, and a write failed; of the whole of both R
+-- holds.
 pub record WroteFront (failed : Output) (before now : Sinks) (records text : List ℕ) (R : List ℕ → List ℕ → Type 0)
     : Type 0 where
   pub more_records : List ℕ

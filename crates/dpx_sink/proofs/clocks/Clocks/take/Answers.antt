@@ -23,7 +23,13 @@ loop-start-preserved g c =
     let bytes : List ℕ = c.args.bytes.now in
     let before = c.loop-start.invariant in
     record {
-      within = omega (arith, before.within, c.in-Ok.ensures.within, ap length (take_rest bytes start), length-drop start bytes);
+      within = omega (
+        arith,
+        before.within,
+        c.in-Ok.ensures.within,
+        ap length (take_rest bytes start),
+        length-drop start bytes,
+      );
       wrote = λ taken p l st. wrote_on _ _ _ p l _ _ (before.wrote taken p l st)
           (λ q m h. wrote_so _ _ q m _ _ (c.in-Ok.ensures.went (taken ++ take start bytes) q m h)
           (λ r k now. rw (← go_on taken bytes start n) now));
@@ -46,9 +52,11 @@ returns-in-Err-clause-went g c = λ taken p l st.
     went_on _ _ _ p l _ _ _ _ c.in-Err.end (c.loop-start.invariant.wrote taken p l st)
     (λ q m h. refused_map _ _ q m _ _ _ _ _ _ c.in-Err.end
     (λ bad r k now. subst (λ x. InFront x (λ w. HasBadWord (framing_of x) w bad r k) (taken ++ bytes)) same
-    (subst (λ xs. InFront c.loop-start.self.link (λ w. HasBadWord (framing_of c.loop-start.self.link) w bad r k) xs) all now))
+    (subst (λ xs. InFront c.loop-start.self.link
+    (λ w. HasBadWord (framing_of c.loop-start.self.link) w bad r k) xs) all now))
     (λ bad r k now. subst (λ x. InFront x (λ w. HasBadSet (framing_of x) w bad r k) (taken ++ bytes)) same
-    (subst (λ xs. InFront c.loop-start.self.link (λ w. HasBadSet (framing_of c.loop-start.self.link) w bad r k) xs) all now))
+    (subst (λ xs. InFront c.loop-start.self.link
+    (λ w. HasBadSet (framing_of c.loop-start.self.link) w bad r k) xs) all now))
     (λ r k now. subst (λ x. InFront x (λ w. HasSome (framing_of x) w r k) (taken ++ bytes)) same
     (subst (λ xs. InFront c.loop-start.self.link (λ w. HasSome (framing_of c.loop-start.self.link) w r k) xs) all now))
     (c.in-Err.ensures.went (taken ++ take start bytes) q m h))
@@ -56,7 +64,8 @@ returns-in-Err-clause-went g c = λ taken p l st.
 pub returns-clause-went : goal.returns-clause-went
 returns-clause-went g c = λ taken p l st.
     let bytes : List ℕ = c.args.bytes.now in
-    let all : take c.loop-start.start bytes ≡ bytes = take_all c.loop-start.start bytes (omega (arith, c.loop-start-test.false)) in
+    let all : take c.loop-start.start bytes ≡ bytes =
+    take_all c.loop-start.start bytes (omega (arith, c.loop-start-test.false)) in
     wrote_so _ _ p l _ _ (c.loop-start.invariant.wrote taken p l st) (λ q m h. rw (← all) h)
 
 pub returns-in-Err-clause-cause : goal.returns-in-Err-clause-cause

@@ -8,12 +8,14 @@ abbrev pub invariant-loop-start : goal.invariant-loop-start
 invariant-loop-start g l = record {
   within : l.start ≤ length l.bytes;
   wrote : (taken p t : List ℕ) → HasTaken l.fn.self taken p t
-      → Wrote (sinks (g.O.Sink.seen l.fn.pix) (g.O.Sink.seen l.fn.log)) (sinks (g.O.Sink.seen l.pix) (g.O.Sink.seen l.log)) p t
+      → Wrote (sinks (g.O.Sink.seen l.fn.pix) (g.O.Sink.seen l.fn.log))
+      (sinks (g.O.Sink.seen l.pix) (g.O.Sink.seen l.log)) p t
       (λ q m. HasTaken l.self (taken ++ take l.start l.bytes) q m);
   ready : IsReady l.self;
   link : l.self.link ≡ l.fn.self.link;
   fed : bytes_in l.self ≡ bytes_in l.fn.self + l.start;
-  calm : Calm (sinks (g.O.Sink.seen l.fn.pix) (g.O.Sink.seen l.fn.log)) (sinks (g.O.Sink.seen l.pix) (g.O.Sink.seen l.log));
+  calm : Calm (sinks (g.O.Sink.seen l.fn.pix) (g.O.Sink.seen l.fn.log))
+      (sinks (g.O.Sink.seen l.pix) (g.O.Sink.seen l.log));
 }
 
 abbrev pub decreases-loop-start : goal.decreases-loop-start

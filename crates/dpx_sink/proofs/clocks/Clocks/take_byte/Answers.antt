@@ -18,7 +18,14 @@ returns-then-len-wide-clause-went g c = λ bytes p l st.
     let lanes : ℕ = lanes_count c.args.self.now.link.lanes in
     let left : List ℕ = c.args.self.now.left.items in
     let more : length left + 1 < 2 * lanes =
-    omega (arith, c.if-len-wide.true, c.len.ensures.value, c.wide.ensures, ap length c.push.ensures.items, length-append left (c.args.byte ∷ [])) in
+    omega (
+      arith,
+      c.if-len-wide.true,
+      c.len.ensures.value,
+      c.wide.ensures,
+      ap length c.push.ensures.items,
+      length-append left (c.args.byte ∷ []),
+    ) in
     nothing_wrote _ p l _ (record {
       done = st.done;
       cut = subst (λ xs. IsCut lanes (bytes ++ c.args.byte ∷ []) st.done xs) (sym c.push.ensures.items)
@@ -42,10 +49,19 @@ returns-clause-went g c = λ bytes p l st.
     let piece : List ℕ = c.args.byte ∷ [] in
     let is : c.as_slice.result.now ≡ left ++ piece = c.as_slice.ensures.value ∙ c.push.ensures.items in
     let whole : length (left ++ piece) ≡ 1 * (2 * lanes) =
-    omega (arith, c.requires.ready.short, c.if-len-wide.false, c.len.ensures.value, c.wide.ensures, ap length c.push.ensures.items, length-append left piece) in
+    omega (
+      arith,
+      c.requires.ready.short,
+      c.if-len-wide.false,
+      c.len.ensures.value,
+      c.wide.ensures,
+      ap length c.push.ensures.items,
+      length-append left piece,
+    ) in
     let rows : c.read_words.new.self.rows ≡ received_words lanes (left ++ piece) =
     ap (λ r. r.rows) c.read_words.ensures
-    ∙ (ap (λ k. words_in (lanes_count k) (length c.as_slice.result.now / (2 * lanes_count k)) c.as_slice.result.now) c.requires.ready.rows
+    ∙ (ap (λ k. words_in (lanes_count k)
+    (length c.as_slice.result.now / (2 * lanes_count k)) c.as_slice.result.now) c.requires.ready.rows
     ∙ (batch_words lanes c.as_slice.result.now ∙ ap (received_words lanes) is)) in
     let words = received_words lanes st.done in
     let same : joined words c.read_words.new.self.rows ≡ joined words (received_words lanes (left ++ piece)) =
@@ -80,7 +96,15 @@ returns-clause-ready g c =
     let size : length c.as_slice.result.now ≡ length left + 1 =
     ap length (c.as_slice.ensures.value ∙ c.push.ensures.items) ∙ length-append left (c.args.byte ∷ []) in
     let whole : length left + 1 ≡ wide =
-    omega (arith, ready.short, c.if-len-wide.false, c.len.ensures.value, c.wide.ensures, ap length c.push.ensures.items, length-append left (c.args.byte ∷ [])) in
+    omega (
+      arith,
+      ready.short,
+      c.if-len-wide.false,
+      c.len.ensures.value,
+      c.wide.ensures,
+      ap length c.push.ensures.items,
+      length-append left (c.args.byte ∷ []),
+    ) in
     let clocks : c.read_words.new.self.clocks ≡ 1 =
     ap (λ r. r.clocks) c.read_words.ensures
     ∙ (ap (λ k. length c.as_slice.result.now / (2 * lanes_count k)) ready.rows

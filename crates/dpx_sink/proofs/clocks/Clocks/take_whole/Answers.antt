@@ -22,9 +22,11 @@ returns-clause-went g c = λ bytes p l st.
     let whole : length piece ≡ n * (2 * lanes) = whole_clocks lanes piece c.requires.whole in
     let rows : c.read_words.new.self.rows ≡ received_words lanes piece =
     ap (λ r. r.rows) c.read_words.ensures
-    ∙ (ap (λ k. words_in (lanes_count k) (length piece / (2 * lanes_count k)) piece) c.requires.ready.rows ∙ batch_words lanes piece) in
+    ∙ (ap (λ k. words_in (lanes_count k) (length piece / (2 * lanes_count k)) piece) c.requires.ready.rows
+    ∙ batch_words lanes piece) in
     let words = received_words lanes st.done in
-    let same : joined words c.read_words.new.self.rows ≡ joined words (received_words lanes piece) = ap (λ r. joined words r) rows in
+    let same : joined words c.read_words.new.self.rows ≡ joined words (received_words lanes piece) =
+    ap (λ r. joined words r) rows in
     went_map _ _ p l _ _ _ _ _ _ _ _ c.batch.result
     (λ done q m h. record {
       done = st.done ++ piece;

@@ -20,7 +20,8 @@ returns-in-Err-clause-went g c = λ taken p l st.
 pub returns-in-Ok-take_byte-clause-went : goal.returns-in-Ok-take_byte-clause-went
 returns-in-Ok-take_byte-clause-went g c = λ taken p l st.
     wrote_so _ _ p l _ _ (c.in-Ok-take_byte.ensures.went taken p l st)
-    (λ q m h. subst (λ xs. HasTaken c.take_byte.new.self (taken ++ xs) q m) (first_byte c.args.bytes.now c.requires.some) h)
+    (λ q m h. subst (λ xs. HasTaken c.take_byte.new.self (taken ++ xs) q m)
+    (first_byte c.args.bytes.now c.requires.some) h)
 
 pub returns-in-Err-take_byte-clause-went : goal.returns-in-Err-take_byte-clause-went
 returns-in-Err-take_byte-clause-went g c = λ taken p l st.

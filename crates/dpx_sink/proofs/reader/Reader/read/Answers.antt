@@ -18,7 +18,8 @@ returns-in-Ok-hear-clause-went g c = λ f words p l a n.
       more_records = records_of (lanes_count f.lanes) n.under c.in-Ok.event;
       more_text = text_of c.in-Ok.event;
       pix_took = subst (λ k. Appends (g.O.Sink.seen c.args.pix.now).taken (g.O.Sink.seen c.hear.new.pix).taken
-          (records_of (lanes_count k) n.under c.in-Ok.event)) a.lines (c.in-Ok-hear.ensures.records n.under n.tally n.holds);
+          (records_of (lanes_count k) n.under c.in-Ok.event)) a.lines
+          (c.in-Ok-hear.ensures.records n.under n.tally n.holds);
       log_took = c.in-Ok-hear.ensures.text;
       so = record {
         sets = n.sets ++ c.args.set.now ∷ [];
@@ -62,7 +63,8 @@ returns-in-Err-clause-went g c = λ f words p l a n. nothing_wrote _ p l _ (reco
   plain = n.given.plain;
   counted = counted_fed c.args.self.now.aligner words n.given.plain n.given.fed;
   first = n.given.first;
-  refuses = refuses_by f c.args.self.now n.sets c.args.set.now c.in-Err.bad a (c.in-Err.ensures.refused n.sets n.parsed);
+  refuses = refuses_by f c.args.self.now n.sets c.args.set.now c.in-Err.bad a
+      (c.in-Err.ensures.refused n.sets n.parsed);
   under = n.under;
   tally = n.tally;
   tell = n.tell;
