@@ -67,12 +67,12 @@ pub few_joined : (m n : ℕ) (front back : List Entry) → length (answers_in fr
 few_joined m n front back a b =
     omega (arith, ap length (answers_in-append front back), length-append (answers_in front) (answers_in back), a, b)
 
-next_suffices : {A B E : Type 0} (n : ℕ) (next : A → Result B E → List Entry → Type 0)
-    → ((value : A) → Suffices n (next value)) → (middle : Result A E)
+next_suffices : {A B E : Type 0} (n : ℕ) (next : A → Result B E → List Entry → Type 0) (middle : Result A E)
+    → ((value : A) → middle ≡ Ok value → Suffices n (next value))
     → Suffices n (λ (given : Result B E) (back : List Entry).
     MatchResult middle (λ value. next value given back) (λ error. (given ≡ Err error) × (back ≡ [])))
-next_suffices n next s (Ok value) answers enough = s value answers enough
-next_suffices n next s (Err error) answers enough = record {
+next_suffices n next (Ok value) s answers enough = s value refl answers enough
+next_suffices n next (Err error) s answers enough = record {
   given = Err error;
   history = [];
   rest = answers;
@@ -81,12 +81,16 @@ next_suffices n next s (Err error) answers enough = record {
   few = omega arith;
 }
 
-pub then_suffices : {A B E : Type 0} (m n : ℕ) {first : Result A E → List Entry → Type 0}
-    {next : A → Result B E → List Entry → Type 0} → Suffices m first → ((value : A) → Suffices n (next value))
+-- where the next part suffices behind whatever the first one gives
+pub then_suffices_behind : {A B E : Type 0} (m n : ℕ) {first : Result A E → List Entry → Type 0}
+    {next : A → Result B E → List Entry → Type 0} → Suffices m first
+    → ((value : A) (history : List Entry) → first (Ok value) history → Suffices n (next value))
     → Suffices (m + n) (first >>= next)
-then_suffices m n {next = next} f s answers enough =
+then_suffices_behind m n {first = first} {next = next} f s answers enough =
     let front = f answers (omega arith) in
-    let back = next_suffices n next s front.given front.rest (left_behind front n enough) in
+    let back = next_suffices n next front.given
+    (λ value e. s value front.history (subst (λ given. first given front.history) e front.done))
+    front.rest (left_behind front n enough) in
     record {
       given = back.given;
       history = front.history ++ back.history;
@@ -103,10 +107,16 @@ then_suffices m n {next = next} f s answers enough =
       few = few_joined m n front.history back.history front.few back.few;
     }
 
-pub choice_suffices : {R : Type 0} (n : ℕ) (test : Bool) {chosen other : R → List Entry → Type 0} → Suffices n chosen
-    → Suffices n other → Suffices n (Choice test chosen other)
-choice_suffices n true c o answers enough =
-    let f = c answers enough in
+pub then_suffices : {A B E : Type 0} (m n : ℕ) {first : Result A E → List Entry → Type 0}
+    {next : A → Result B E → List Entry → Type 0} → Suffices m first → ((value : A) → Suffices n (next value))
+    → Suffices (m + n) (first >>= next)
+then_suffices m n f s = then_suffices_behind m n f (λ value history done. s value)
+
+-- where each part suffices in its case
+pub choice_suffices_in : {R : Type 0} (n : ℕ) (test : Bool) {chosen other : R → List Entry → Type 0}
+    → (test ≡ true → Suffices n chosen) → (test ≡ false → Suffices n other) → Suffices n (Choice test chosen other)
+choice_suffices_in n true c o answers enough =
+    let f = c refl answers enough in
     record {
       given = f.given;
       history = f.history;
@@ -115,8 +125,8 @@ choice_suffices n true c o answers enough =
       begins = f.begins;
       few = f.few;
     }
-choice_suffices n false c o answers enough =
-    let f = o answers enough in
+choice_suffices_in n false c o answers enough =
+    let f = o refl answers enough in
     record {
       given = f.given;
       history = f.history;
@@ -125,6 +135,10 @@ choice_suffices n false c o answers enough =
       begins = f.begins;
       few = f.few;
     }
+
+pub choice_suffices : {R : Type 0} (n : ℕ) (test : Bool) {chosen other : R → List Entry → Type 0} → Suffices n chosen
+    → Suffices n other → Suffices n (Choice test chosen other)
+choice_suffices n test c o = choice_suffices_in n test (λ t. c) (λ t. o)
 
 -- Behind so many answers in vain, with so many more asks left before the last one: some answer ends it.
 record EndsWithin {E : Type 0} (heard_from : Answer → Heard E) (spent : LastAnswer → E) (before left : ℕ)

@@ -1,5 +1,5 @@
 -- Fetching the base block of an EDID by I2C over AUX: this project's own order.
-use Rattle.std.specs.Prelude.{◌≡◌, ℕ, zero, suc, ◌+◌, ◌-◌, ◌*◌, ◌==◌, true, false, nat_lt, if◌then◌else◌, List, [], ◌++◌}
+use Rattle.std.specs.Prelude.{◌≡◌, ℕ, zero, suc, ◌+◌, ◌-◌, ◌*◌, ◌≤◌, ◌==◌, true, false, nat_lt, if◌then◌else◌, List, [], ◌++◌}
 use Rattle.std.specs.Prelude.{length, Result, Ok, Err}
 use Rattle.dpx_base.specs.declared.aux_port.Answer.{Answer}
 use Rattle.dpx_base.specs.declared.aux_port.Answer.TheVariants.{Silent, Bytes}
@@ -7,7 +7,6 @@ use Rattle.dpx_base.specs.declared.aux_port.Entry.{Entry}
 use Rattle.dpx_base.specs.Port.{asks}
 use Rattle.dpx_aux.specs.declared.asking.Heard.{Heard}
 use Rattle.dpx_aux.specs.declared.asking.Heard.TheVariants.{End, InVain}
-use Rattle.dpx_aux.specs.declared.asking.LastAnswer.{LastAnswer}
 use Rattle.dpx_aux.specs.declared.asking.LastAnswer.TheVariants as last
 use Rattle.dpx_aux.specs.Asking.{AsksInTurn, asks_at_most}
 use Rattle.dpx_aux.specs.Conversation.{Ends, ◌>>=◌, Choice, Never}
@@ -36,7 +35,7 @@ heard_from request (Bytes bytes) = meaning (read_i2c_reply request bytes)
 
 -- The request's bytes are asked until an acknowledgement or a refusal, at most eight times.
 unfoldable pub I2cTransaction : I2c → Result (List ℕ) I2cEnd → List Entry → Type 0
-I2cTransaction request = AsksInTurn (encode_i2c request) (heard_from request) (λ last. Spent last)
+I2cTransaction request = AsksInTurn (encode_i2c request) (heard_from request) Spent
 
 -- how many bytes a base block has
 abbrev pub block_length : ℕ
@@ -46,6 +45,12 @@ block_length = 128
 -- which ends it.
 abbrev pub read_for : ℕ → I2c
 read_for missing = if nat_lt 16 missing then Read 16 false else Read missing true
+
+-- how many bytes the read for so many missing ones brings
+pub record Brings (missing count : ℕ) : Type 0 where
+  pub some : 1 ≤ count
+  pub few : count ≤ missing
+  pub all : missing ≤ 16 → count ≡ missing
 
 -- these bytes are the whole block, or else more is read
 abbrev pub UnlessWhole : List ℕ → (Result (List ℕ) I2cEnd → List Entry → Type 0)

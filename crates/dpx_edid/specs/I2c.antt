@@ -1,5 +1,5 @@
 -- Requests of I2C over AUX: VESA DisplayPort 1.4a, I2C over AUX transaction syntax.
-use Rattle.std.specs.Prelude.{ℕ, ◌-◌, ◌≤◌, Bool, if◌then◌else◌, List, [], ◌∷◌, ⊤}
+use Rattle.std.specs.Prelude.{ℕ, ◌-◌, ◌≤◌, if◌then◌else◌, List, [], ◌∷◌, ⊤}
 use Rattle.dpx_edid.specs.declared.i2c.I2c.{I2c}
 use Rattle.dpx_edid.specs.declared.i2c.I2c.TheVariants.{Start, Read}
 

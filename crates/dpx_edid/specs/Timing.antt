@@ -1,8 +1,7 @@
 -- Detailed timings of eighteen bytes: VESA E-EDID standard, detailed timing descriptors. How the bits of polarity are read,
 -- and that a timing has 8 bits a component, is this project's own.
-use Rattle.std.specs.Prelude.{ℕ, ◌+◌, ◌-◌, ◌*◌, ◌/◌, ◌%◌, ◌==◌, ◌&&◌, Bool, true, false, not, nat_le, if◌then◌else◌}
+use Rattle.std.specs.Prelude.{ℕ, ◌+◌, ◌-◌, ◌*◌, ◌/◌, ◌%◌, ◌==◌, ◌&&◌, Bool, nat_le, if◌then◌else◌}
 use Rattle.std.specs.Prelude.{List, [], ◌∷◌, slice_index, Option, Some, None, Result, Ok, Err}
-use Rattle.dpx_base.specs.declared.depth.Depth.{Depth}
 use Rattle.dpx_base.specs.declared.depth.Depth.TheVariants.{Eight}
 use Rattle.dpx_base.specs.declared.raw_mode.RawMode.{RawMode}
 use Rattle.dpx_base.specs.declared.raw_mode.ModeField.{ModeField}
@@ -39,25 +38,26 @@ frame_in bytes = record {
 abbrev pub is_negative : ℕ → ℕ → Bool
 is_negative bit flags = flags / 8 % 4 == 3 && flags / bit % 2 == 0
 
--- the fields of the mode that the bytes say, in range or not
+-- The fields of the mode that these numbers and flags say, in range or not. A sync pulse starts at the end of the
+-- front; where the front is greater than the blank, it starts where the picture does.
+abbrev pub raw_from : Extent → Extent → ℕ → ℕ → RawMode
+raw_from line frame flags clock = record {
+  width = line.active;
+  height = frame.active;
+  htotal = line.active + line.blank;
+  vtotal = frame.active + frame.blank;
+  hsw = line.sync;
+  hstart = line.blank - line.front;
+  vsw = frame.sync;
+  vstart = frame.blank - frame.front;
+  hsp = is_negative 2 flags;
+  vsp = is_negative 4 flags;
+  clock_khz = clock;
+  depth = Eight;
+}
+
 abbrev pub raw_mode : List ℕ → RawMode
-raw_mode bytes =
-    let line = line_in bytes in
-    let frame = frame_in bytes in
-    record {
-      width = line.active;
-      height = frame.active;
-      htotal = line.active + line.blank;
-      vtotal = frame.active + frame.blank;
-      hsw = line.sync;
-      hstart = line.blank - line.front;
-      vsw = frame.sync;
-      vstart = frame.blank - frame.front;
-      hsp = is_negative 2 (slice_index bytes 17);
-      vsp = is_negative 4 (slice_index bytes 17);
-      clock_khz = clock_in bytes;
-      depth = Eight;
-    }
+raw_mode bytes = raw_from (line_in bytes) (frame_in bytes) (slice_index bytes 17) (clock_in bytes)
 
 -- the mode, or the first field that is out of its range
 abbrev pub slot_of : Result ModeFacts ModeField → Slot
@@ -102,18 +102,22 @@ has_timing mode =
 abbrev pub flags_of : Bool → Bool → ℕ
 flags_of hsp vsp = 0x18 + (if hsp then 0 else 2) + (if vsp then 0 else 4)
 
+-- the high bits of fronts and sync pulses, two of each
+abbrev pub high_bits : Extent → Extent → ℕ
+high_bits line frame = (line.front / 256 * 64 + line.sync / 256 * 16) + (frame.front / 16 * 4 + frame.sync / 16)
+
 abbrev pub timing_bytes : ℕ → Extent → Extent → ℕ → List ℕ
 timing_bytes clock line frame flags =
     (clock % 256) ∷ (clock / 256)
     ∷ (line.active % 256) ∷ (line.blank % 256) ∷ (line.active / 256 * 16 + line.blank / 256)
     ∷ (frame.active % 256) ∷ (frame.blank % 256) ∷ (frame.active / 256 * 16 + frame.blank / 256)
     ∷ (line.front % 256) ∷ (line.sync % 256) ∷ (frame.front % 16 * 16 + frame.sync % 16)
-    ∷ (line.front / 256 * 64 + line.sync / 256 * 16 + frame.front / 16 * 4 + frame.sync / 16)
+    ∷ high_bits line frame
     ∷ 0x00 ∷ 0x00 ∷ 0x00 ∷ 0x00 ∷ 0x00 ∷ flags ∷ []
 
 -- the timing of a mode, where it has one
 abbrev pub write_timing : ModeFacts → Option (List ℕ)
 write_timing mode =
     if has_timing mode then
-      Some (timing_bytes (mode.clock_khz / 10) (line_of mode) (frame_of mode) (flags_of mode.hsp mode.vsp))
+    Some (timing_bytes (mode.clock_khz / 10) (line_of mode) (frame_of mode) (flags_of mode.hsp mode.vsp))
     else None

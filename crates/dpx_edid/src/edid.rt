@@ -1,5 +1,5 @@
 ghost use Rattle.std.specs.Prelude.{◌≡◌, ◌≤◌};
-ghost use Rattle.dpx_edid.specs.Edid.{read_edid, header, first_difference, sum_of, slot_at, slots_in};
+ghost use Rattle.dpx_edid.specs.Edid.{read_edid, begins_alike, sum_of, slot_at, slots_in};
 
 use crate::timing::{Slot, read_timing};
 
@@ -30,8 +30,9 @@ const HEADER: [u8; 8] = [0x00, 0xff, 0xff, 0xff, 0xff, 0xff, 0xff, 0x00];
 pub fn read_edid(block: &[u8; 128]) -> Result<Edid, EdidBad>
     ensures { result ≡ read_edid block.now }
 {
-    if let Some(place) = first_difference(block) {
-        return Err(EdidBad::Header(place));
+    let begins = begins_alike(block);
+    if begins < 8 {
+        return Err(EdidBad::Header(begins));
     }
     let sum = sum_of(block);
     if sum != 0 {
@@ -48,15 +49,21 @@ pub fn read_edid(block: &[u8; 128]) -> Result<Edid, EdidBad>
     })
 }
 
-/// The first place at which the block does not begin as it should.
-fn first_difference(block: &[u8; 128]) -> Option<u8>
-    ensures { result ≡ first_difference header block.now }
+/// How many bytes the block begins with as it should.
+#[tactic(auto, unfolding(crate::specs::Edid::begins_alike))]
+fn begins_alike(block: &[u8; 128]) -> u8
+    ensures { result ≡ begins_alike block.now }
 {
-    let place = HEADER.iter().zip(block).position(|(wanted, found)| wanted != found)?;
-    Some(place as u8)
+    for (place, wanted) in HEADER.iter().enumerate() {
+        if block[place] != *wanted {
+            return place as u8;
+        }
+    }
+    HEADER.len() as u8
 }
 
 /// The sum of all bytes modulo 256.
+#[tactic(auto, unfolding(crate::specs::Edid::sum_of))]
 fn sum_of(block: &[u8; 128]) -> u8
     ensures { result ≡ sum_of block.now }
 {
@@ -67,6 +74,7 @@ fn sum_of(block: &[u8; 128]) -> u8
     total
 }
 
+#[tactic(auto, unfolding(crate::specs::Edid::slots_in))]
 fn slots_in(block: &[u8; 128]) -> [Slot; 4]
     ensures { result ≡ slots_in block.now }
 {

@@ -79,9 +79,6 @@ impl Extent {
     pub(crate) fn has_room(self, greatest: u32) -> bool
         ensures { result ≡ has_room greatest self }
     {
-        self.active <= 4095
-            && self.blank <= 4095
-            && self.front <= greatest
-            && self.sync <= greatest
+        self.active <= 4095 && self.blank <= 4095 && self.front <= greatest && self.sync <= greatest
     }
 }

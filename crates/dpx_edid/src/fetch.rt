@@ -1,15 +1,15 @@
-ghost use Rattle.std.specs.Prelude.{◌≡◌, ◌+◌, ◌-◌, ◌*◌, ◌<◌, ◌≤◌, length, IfOk};
+ghost use Rattle.std.specs.Prelude.{◌≡◌, ◌+◌, ◌*◌, ◌≤◌, [], length, IfOk};
 ghost use Rattle.dpx_base.specs.Asks.{CanAsk, AsksAtMost};
 ghost use Rattle.dpx_aux.specs.Asking.{asks_at_most};
 ghost use Rattle.dpx_aux.specs.Conversation.{Converses};
 ghost use Rattle.dpx_edid.specs.I2c.{IsValid, encode_i2c};
 ghost use Rattle.dpx_edid.specs.Fetch.{I2cTransaction, Reads, FetchOutcome, Fetch, heard_from, read_for, end_of};
-ghost use Rattle.dpx_edid.specs.Fetch.{requests_told, reads_at_most, fetch_asks};
+ghost use Rattle.dpx_edid.specs.Fetch.{Brings, requests_told, reads_at_most, fetch_asks};
 
 use crate::i2c_reply::{I2cReply, read_i2c_reply};
 use crate::{I2c, encode_i2c};
 use arrayvec::ArrayVec;
-use dpx_aux::{AuxRequest, Heard, LastAnswer, ask_in_turn};
+use dpx_aux::{AuxRequest, Data16, Heard, LastAnswer, ask_in_turn};
 use dpx_base::{Answer, AuxPort, Bytes20};
 
 /// Why a transaction of I2C over AUX failed.
@@ -28,7 +28,7 @@ pub struct Fetched {
     pub requests: u32,
 }
 
-/// Why no block was end_of, and how many requests were asked.
+/// Why no block was fetched, and how many requests were asked.
 #[derive(Clone, Copy, Debug, PartialEq, Eq)]
 pub struct FetchEnd {
     pub why: I2cEnd,
@@ -42,6 +42,8 @@ const BLOCK: usize = 128;
 const READ: usize = 16;
 
 impl AuxRequest for I2c {
+    ghost use Rattle.dpx_edid.specs.declared.fetch.I2cEnd.TheVariants.{Spent};
+
     type Failure = I2cEnd;
 
     ghost is_valid = { IsValid };
@@ -50,7 +52,7 @@ impl AuxRequest for I2c {
 
     ghost heard_from = { heard_from };
 
-    ghost spent = { λ request last. I2cEnd.Spent last };
+    ghost spent = { λ request. Spent };
 
     fn encode(&self) -> Bytes20 {
         encode_i2c(self)
@@ -101,7 +103,7 @@ fn fetch<P: AuxPort>(port: &mut P) -> Result<[u8; 128], I2cEnd>
     ensures fetches { Converses FetchOutcome (P.state port.old) (P.state port.new) result }
     ensures few { AsksAtMost fetch_asks (P.state port.old) (P.state port.new) }
 {
-    ask_in_turn(port, &I2c::Start)?;
+    transact(port, &I2c::Start)?;
     read_block(port)
 }
 
@@ -113,12 +115,36 @@ fn read_block<P: AuxPort>(port: &mut P) -> Result<[u8; 128], I2cEnd>
 {
     let mut got = ArrayVec::<u8, BLOCK>::new();
     while got.len() < BLOCK {
-        let brought = ask_in_turn(port, &read_for(BLOCK - got.len()))?;
+        let brought = read_next(port, BLOCK - got.len())?;
         got.try_extend_from_slice(brought.as_slice()).unwrap();
     }
     let mut block = [0; BLOCK];
     block.copy_from_slice(got.as_slice());
     Ok(block)
+}
+
+/// Reads the next of so many missing bytes.
+fn read_next<P: AuxPort>(port: &mut P, missing: usize) -> Result<Data16, I2cEnd>
+    requires some { 1 ≤ missing }
+    requires few { missing ≤ 128 }
+    requires countable { CanAsk asks_at_most (P.state port.old) }
+    ensures reads { Converses (I2cTransaction (read_for missing)) (P.state port.old) (P.state port.new) result }
+    ensures few { AsksAtMost asks_at_most (P.state port.old) (P.state port.new) }
+    ensures brings { IfOk result (λ bytes. Brings missing (length bytes)) }
+{
+    transact(port, &read_for(missing))
+}
+
+/// Asks for the request until an answer acknowledges or refuses it, at most eight times, and gives what an
+/// acknowledged read brought.
+#[tactic(auto, unfolding(crate::specs::Fetch::I2cTransaction))]
+fn transact<P: AuxPort>(port: &mut P, request: &I2c) -> Result<Data16, I2cEnd>
+    requires valid { IsValid request.now }
+    requires countable { CanAsk asks_at_most (P.state port.old) }
+    ensures transacts { Converses (I2cTransaction request.now) (P.state port.old) (P.state port.new) result }
+    ensures few { AsksAtMost asks_at_most (P.state port.old) (P.state port.new) }
+{
+    ask_in_turn(port, request)
 }
 
 /// The read for so many missing bytes: a full one that is not the last, or the last one for all of them.

@@ -60,6 +60,9 @@ fn may_bring(request: &I2c, count: usize) -> bool
     match request {
         I2c::Start => count == 0,
         I2c::Read { length, last: true } => count == usize::from(*length),
-        I2c::Read { length, last: false } => 1 <= count && count <= usize::from(*length),
+        I2c::Read {
+            length,
+            last: false,
+        } => 1 <= count && count <= usize::from(*length),
     }
 }

@@ -1,6 +1,6 @@
-ghost use Rattle.std.specs.Prelude.{◌≡◌, ◌<◌};
+ghost use Rattle.std.specs.Prelude.{◌≡◌, ◌<◌, ◌≤◌};
 ghost use Rattle.dpx_edid.specs.Timing.{clock_in, is_negative, raw_mode, read_timing};
-ghost use Rattle.dpx_edid.specs.Timing.{line_of, frame_of, has_timing, flags_of, write_timing};
+ghost use Rattle.dpx_edid.specs.Timing.{line_of, frame_of, has_timing, flags_of, high_bits, write_timing};
 
 use crate::extent::{Extent, frame_in, frame_of, line_in, line_of};
 use dpx_base::{Depth, Mode, ModeField, RawMode};
@@ -94,7 +94,7 @@ pub fn write_timing(mode: &Mode) -> Option<[u8; 18]>
         (line.front % 256) as u8,
         (line.sync % 256) as u8,
         (frame.front % 16 * 16 + frame.sync % 16) as u8,
-        (line.front / 256 * 64 + line.sync / 256 * 16 + frame.front / 16 * 4 + frame.sync / 16) as u8,
+        high_bits(line, frame),
         0x00,
         0x00,
         0x00,
@@ -102,6 +102,19 @@ pub fn write_timing(mode: &Mode) -> Option<[u8; 18]>
         0x00,
         flags_of(mode.hsp(), mode.vsp()),
     ])
+}
+
+/// The high bits of fronts and sync pulses, two of each.
+fn high_bits(line: Extent, frame: Extent) -> u8
+    requires line_front { line.front ≤ 1023 }
+    requires line_sync { line.sync ≤ 1023 }
+    requires frame_front { frame.front ≤ 63 }
+    requires frame_sync { frame.sync ≤ 63 }
+    ensures { result ≡ high_bits line frame }
+{
+    let along_line = line.front / 256 * 64 + line.sync / 256 * 16;
+    let along_frame = frame.front / 16 * 4 + frame.sync / 16;
+    (along_line + along_frame) as u8
 }
 
 /// Whether a timing can say the mode, which is so long along a line and along a frame.
