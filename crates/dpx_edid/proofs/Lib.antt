@@ -1,6 +1,7 @@
 pub mod Alike
 pub mod Bounded
 pub mod Brought
+pub mod Caused
 pub mod Decided
 pub mod Reading
 pub mod Suffices

@@ -1,3 +1,4 @@
+pub mod Causes
 pub mod Edid
 pub mod Fetch
 pub mod I2c

@@ -2,8 +2,9 @@
 ghost use Rattle.std.specs.Prelude.{◌≡◌, ◌≤◌, Some, IfSome};
 ghost use Rattle.dpx_base.specs.Mode.{ModeFacts, IsLegal};
 ghost use Rattle.dpx_base.specs.Port.{asks};
-ghost use Rattle.dpx_aux.specs.Conversation.{IsDecided, HistoriesAre, Suffices};
+ghost use Rattle.dpx_aux.specs.Conversation.{AlwaysIs, IsDecided, HistoriesAre, Suffices};
 ghost use Rattle.dpx_edid.specs.declared.timing.Slot.TheVariants.{Timing};
+ghost use Rattle.dpx_edid.specs.Causes.{IsCaused};
 ghost use Rattle.dpx_edid.specs.Fetch.{Fetch, fetch_asks};
 ghost use Rattle.dpx_edid.specs.Timing.{read_timing, write_timing};
 
@@ -21,6 +22,12 @@ pub fn some_fetch()
 pub fn is_bounded()
     ensures number { fetch_asks ≡ 912 }
     ensures asks { HistoriesAre Fetch (λ history. asks history ≤ fetch_asks) }
+{}
+
+/// Whatever its history, a fetch that was refused ended at a refusal, one that is spent at the eighth answer in vain,
+/// which it tells; and a block is whole.
+pub fn is_caused()
+    ensures { AlwaysIs Fetch IsCaused }
 {}
 
 /// The timing of a mode says that mode.

@@ -19,5 +19,5 @@ pub use edid::{Edid, EdidBad, read_edid};
 pub use fetch::{FetchEnd, Fetched, I2cEnd, fetch_edid};
 pub use i2c::{I2c, encode_i2c};
 pub use i2c_reply::{I2cReply, read_i2c_reply};
-pub use laws::{is_bounded, one_fetch, some_fetch, timing_comes_back};
+pub use laws::{is_bounded, is_caused, one_fetch, some_fetch, timing_comes_back};
 pub use timing::{Slot, read_timing, write_timing};
