@@ -12,6 +12,7 @@ mod base;
 mod buffer;
 mod code;
 mod dpcd;
+mod edid;
 mod files;
 mod lane;
 mod link;
