@@ -1,19 +1,21 @@
 ghost use Rattle.std.specs.Prelude.{◌≡◌, ◌<◌, ◌↔◌, length, None, IfOk, IfSome, IsErr, IsErrOf};
 ghost use Rattle.serde_json.specs.View.{view};
 ghost use Rattle.dpx_dpcd.specs.Model.{IsPlan};
-ghost use Rattle.dpx_files.specs.Job.{reading, job_of, train_of, send_of, run_of, sink_of, longest_job};
+ghost use Rattle.dpx_files.specs.Job.{reading, job_of, train_of, send_of, run_of, watch_of, judge_of, sink_of, longest_job};
 ghost use Rattle.dpx_files.specs.Job.{plan_asked, shape_asked, need_of, IsJob};
 ghost use Rattle.dpx_files.specs.Members.{json_of};
 ghost use Rattle.dpx_files.specs.Refusal.{GivesUnlessMemory, refused};
 ghost use Rattle.dpx_files.specs.Shape.{IsShape};
 
+use crate::entries::read_entries;
+use crate::events::read_events;
 use crate::link_fields::read_link;
-use crate::members::{object_in, read_value};
+use crate::members::{member, object_in, read_value};
 use crate::model::read_model;
 use crate::script::read_script;
 use crate::shape::read_shape;
 use crate::{Field, JobBad, Shape};
-use dpx_base::Link;
+use dpx_base::{EntryList, EventList, Link};
 use dpx_dpcd::SinkPlan;
 use serde_json::Value;
 use std::alloc::Global;
@@ -24,6 +26,8 @@ pub enum Need {
     Train,
     Send,
     Run,
+    Watch,
+    Judge,
 }
 
 /// What a job asks for.
@@ -44,6 +48,17 @@ pub enum Job {
         link: Link,
         shape: Shape,
         sink: SinkPlan,
+    },
+    /// Supervise this link with this sink through these events.
+    Watch {
+        link: Link,
+        sink: SinkPlan,
+        events: EventList,
+    },
+    /// Judge whether this history is a training of this link.
+    Judge {
+        link: Link,
+        entries: EntryList,
     },
 }
 
@@ -79,6 +94,8 @@ fn job_of(alloc: Global, value: &Value, need: Need) -> Result<Job, JobBad>
         Need::Train => train_job(alloc, value),
         Need::Send => Ok(send_job(value)?),
         Need::Run => run_job(alloc, value),
+        Need::Watch => watch_job(alloc, value),
+        Need::Judge => judge_job(alloc, value),
     }
 }
 
@@ -118,6 +135,31 @@ fn run_job(alloc: Global, value: &Value) -> Result<Job, JobBad>
     let shape = read_shape(root)?;
     let sink = read_sink(alloc, root)?;
     Ok(Job::Run { link, shape, sink })
+}
+
+#[tactic(auto, unfolding(crate::specs::Job::watch_of))]
+fn watch_job(alloc: Global, value: &Value) -> Result<Job, JobBad>
+    ensures exact { GivesUnlessMemory (refused (watch_of (view value.now))) result }
+    ensures good { IfOk result IsJob }
+    ensures kind { IfOk result (λ job. need_of job ≡ Need.Watch) }
+{
+    let root = object_in(Field::Root, Some(value))?;
+    let link = read_link(root)?;
+    let sink = read_sink(alloc, root)?;
+    let events = read_events(alloc, member(Field::Events, root)?)?;
+    Ok(Job::Watch { link, sink, events })
+}
+
+#[tactic(auto, unfolding(crate::specs::Job::judge_of))]
+fn judge_job(alloc: Global, value: &Value) -> Result<Job, JobBad>
+    ensures exact { GivesUnlessMemory (refused (judge_of (view value.now))) result }
+    ensures good { IfOk result IsJob }
+    ensures kind { IfOk result (λ job. need_of job ≡ Need.Judge) }
+{
+    let root = object_in(Field::Root, Some(value))?;
+    let link = read_link(root)?;
+    let entries = read_entries(alloc, member(Field::Entries, root)?)?;
+    Ok(Job::Judge { link, entries })
 }
 
 #[tactic(auto, unfolding(crate::specs::Job::sink_of))]
