@@ -10,7 +10,6 @@ use Rattle.dpx_base.specs.declared.port_event.PortEvent.TheVariants.{Plug, Inter
 use Rattle.dpx_base.specs.Port.{asks}
 use Rattle.dpx_base.proofs.Port.{asks-append}
 use Rattle.dpx_aux.specs.declared.request.Request.{Request}
-use Rattle.dpx_aux.specs.declared.transaction.AuxEnd.{AuxEnd}
 use Rattle.dpx_aux.specs.Conversation.{Ends, ◌>>=◌, Choice, HistoriesAre}
 use Rattle.dpx_aux.specs.Request.{encode_request}
 use Rattle.dpx_aux.specs.Transaction.{Transaction, asked_with, asks_at_most}
@@ -18,7 +17,6 @@ use Rattle.dpx_dpcd.specs.Registers.{ReadsStatus, Writes}
 use Rattle.dpx_link.specs.Training.{Training, training_asks, training_entries}
 use Rattle.dpx_link.proofs.Bounded.{training_asked}
 use Rattle.dpx_link.proofs.Waits.{training_length}
-use Rattle.dpx_watch.specs.declared.outcome.Outcome.{Outcome}
 use Rattle.dpx_watch.specs.declared.state.WatchState.{WatchState}
 use Rattle.dpx_watch.specs.declared.state.WatchState.TheVariants.{Down, Up}
 use Rattle.dpx_watch.specs.Step.{Trains, Checks, Resumes, OnEvent, WatchStep, step_asks, step_entries}

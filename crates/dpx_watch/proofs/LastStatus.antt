@@ -18,7 +18,7 @@ use Rattle.dpx_phase.proofs.LastStatus.{forget_drive, read_behind}
 use Rattle.dpx_link.specs.declared.train_end.TrainEnd.{TrainEnd}
 use Rattle.dpx_link.specs.declared.train_end.TrainEnd.TheVariants as train
 use Rattle.dpx_link.specs.LastStatus.{TrainingIsRead}
-use Rattle.dpx_link.specs.Training.{Training, TrainedIsDone}
+use Rattle.dpx_link.specs.Training.{TrainedIsDone}
 use Rattle.dpx_link.proofs.LastStatus.{training_read}
 use Rattle.dpx_link.proofs.TrainedIsDone.{training_good}
 use Rattle.dpx_watch.specs.declared.outcome.Outcome.{Outcome}
@@ -81,7 +81,8 @@ looked_at : (top link : Link) (before last : Status6) (test : Bool) → all_lane
     → Choice test (Ends (Ok (Kept last))) (Trains top) given back → SettlesRead (Up link before) given (front ++ back)
 looked_at top link before last true e given front back r c =
     let kept = c.if_true refl in
-    let here : IsReadGood link last front = record { good = shows_done link.lanes last e; read = read_here last front r } in
+    let good = shows_done link.lanes last e in
+    let here : IsReadGood link last front = record { good = good; read = read_here last front r } in
     let joined : front ≡ front ++ back =
     sym (append-nil front) ∙ ap (λ (entries : List Entry). front ++ entries) (sym kept.nothing) in
     subst (λ (r : Result Outcome AuxEnd). SettlesRead (Up link before) r (front ++ back)) (sym kept.same)

@@ -1,5 +1,5 @@
 -- Whether a link may carry frames: this project's own.
-use Rattle.std.specs.Prelude.{◌≡◌, Bool, true, false, ◌&&◌, Option, Some, None, ⊤}
+use Rattle.std.specs.Prelude.{Bool, true, false, ◌&&◌, Option, Some, None, ⊤}
 use Rattle.dpx_base.specs.declared.lanes.Lanes.{Lanes}
 use Rattle.dpx_base.specs.declared.link.Link.{Link}
 use Rattle.dpx_dpcd.specs.declared.status.Status6.{Status6}
