@@ -1,8 +1,9 @@
 -- The reading of a job: this project's own. The fields are tried in the order in which they stand here.
-use Rattle.std.specs.Prelude.{ℕ, nat_lt, if◌then◌else◌, List, length, codes, Option, Some, None, Result, Ok, Err, IfSome}
+use Rattle.std.specs.Prelude.{ℕ, ◌≤◌, nat_lt, if◌then◌else◌, List, length, codes, Option, Some, None, Result, Ok, Err, IfSome}
 use Rattle.serde_json.specs.Data.{Data}
 use Rattle.serde_json.specs.Find.{get}
 use Rattle.dpx_base.specs.declared.link.Link.{Link}
+use Rattle.dpx_base.specs.declared.port_event.PortEvent.{PortEvent}
 use Rattle.dpx_dpcd.specs.declared.plan.SinkPlan.{SinkPlan}
 use Rattle.dpx_dpcd.specs.declared.plan.SinkPlan.TheVariants as plan
 use Rattle.dpx_dpcd.specs.Model.{IsPlan}
@@ -16,7 +17,7 @@ use Rattle.dpx_files.specs.declared.refusal.JobBad.{JobBad}
 use Rattle.dpx_files.specs.declared.refusal.JobBad.TheVariants.{TooLong, NotJson}
 use Rattle.dpx_files.specs.Refusal.{◌>>=◌, refused}
 use Rattle.dpx_files.specs.Entries.{entries_of}
-use Rattle.dpx_files.specs.Events.{events_of}
+use Rattle.dpx_files.specs.Events.{events_of, most_events}
 use Rattle.dpx_files.specs.Members.{json_of, member, object_in}
 use Rattle.dpx_files.specs.LinkFields.{link_of}
 use Rattle.dpx_files.specs.Script.{script_of}
@@ -119,6 +120,14 @@ shape_asked (job.Run link shape sink) = Some shape
 shape_asked (job.Watch link sink events) = None
 shape_asked (job.Judge link entries) = None
 
+-- the events that a supervisor is told, where there are any
+abbrev pub events_asked : Job → Option (List PortEvent)
+events_asked (job.Train link sink) = None
+events_asked (job.Send link shape) = None
+events_asked (job.Run link shape sink) = None
+events_asked (job.Watch link sink events) = Some events
+events_asked (job.Judge link entries) = None
+
 -- what a job was read for
 abbrev pub need_of : Job → Need
 need_of (job.Train link sink) = need.Train
@@ -131,6 +140,7 @@ need_of (job.Judge link entries) = need.Judge
 pub record IsJob (asked : Job) : Type 0 where
   pub plan : IfSome (plan_asked asked) IsPlan
   pub shape : IfSome (shape_asked asked) IsShape
+  pub events : IfSome (events_asked asked) (λ events. length events ≤ most_events)
 
 -- what the value of a text says, if it is one
 abbrev pub job_of_text : Need → Option Data → Result Job JobBad

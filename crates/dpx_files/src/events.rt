@@ -1,6 +1,6 @@
-ghost use Rattle.std.specs.Prelude.{◌≡◌};
+ghost use Rattle.std.specs.Prelude.{◌≡◌, ◌≤◌, IfOk, length};
 ghost use Rattle.serde_json.specs.View.{view};
-ghost use Rattle.dpx_files.specs.Events.{events_of, event_from};
+ghost use Rattle.dpx_files.specs.Events.{events_of, event_from, most_events};
 ghost use Rattle.dpx_files.specs.Refusal.{GivesUnlessMemory, refused};
 
 use crate::items::{Item, read_items};
@@ -15,7 +15,8 @@ const MOST_EVENTS: usize = 64;
 /// The events of a job.
 #[tactic(auto, unfolding(crate::specs::Events::events_of))]
 pub(crate) fn read_events(alloc: Global, events: &Value) -> Result<EventList, JobBad>
-    ensures { GivesUnlessMemory (refused (events_of (view events.now))) result }
+    ensures exact { GivesUnlessMemory (refused (events_of (view events.now))) result }
+    ensures few { IfOk result (λ events. length events ≤ most_events) }
 {
     match read_items(alloc, Field::Events, MOST_EVENTS, events) {
         Ok(events) => Ok(EventList::from_vec(events)),

@@ -1,4 +1,4 @@
-ghost use Rattle.std.specs.Prelude.{◌≡◌, ◌⊎◌, Ok, Err, MatchResult};
+ghost use Rattle.std.specs.Prelude.{◌≡◌, ◌≤◌, ◌⊎◌, Ok, Err, IfOk, MatchResult, length};
 ghost use Rattle.serde_json.specs.View.{view};
 ghost use Rattle.dpx_files.specs.declared.refusal.JobBad.TheVariants.{Memory};
 ghost use Rattle.dpx_files.specs.Items.{items_of};
@@ -28,9 +28,10 @@ pub(crate) fn read_items<T: Item>(
     most: usize,
     list: &Value,
 ) -> Result<Vec<T>, JobBad>
-    ensures { MatchResult result
+    ensures exact { MatchResult result
         (λ items. refused (items_of field most T.item_of (view list.now)) ≡ Ok items.items)
         (λ bad. (bad ≡ Memory) ⊎ (refused (items_of field most T.item_of (view list.now)) ≡ Err bad)) }
+    ensures few { IfOk result (λ items. length items.items ≤ most) }
 {
     let Some(values) = elements(list) else {
         return Err(JobBad::Wrong(field));

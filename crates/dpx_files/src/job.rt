@@ -1,8 +1,9 @@
-ghost use Rattle.std.specs.Prelude.{◌≡◌, ◌<◌, ◌↔◌, length, None, IfOk, IfSome, IsErr, IsErrOf};
+ghost use Rattle.std.specs.Prelude.{◌≡◌, ◌<◌, ◌≤◌, ◌↔◌, length, None, IfOk, IfSome, IsErr, IsErrOf};
 ghost use Rattle.serde_json.specs.View.{view};
 ghost use Rattle.dpx_dpcd.specs.Model.{IsPlan};
 ghost use Rattle.dpx_files.specs.Job.{reading, job_of, train_of, send_of, run_of, watch_of, judge_of, sink_of, longest_job};
-ghost use Rattle.dpx_files.specs.Job.{plan_asked, shape_asked, need_of, IsJob};
+ghost use Rattle.dpx_files.specs.Job.{plan_asked, shape_asked, events_asked, need_of, IsJob};
+ghost use Rattle.dpx_files.specs.Events.{most_events};
 ghost use Rattle.dpx_files.specs.Members.{json_of};
 ghost use Rattle.dpx_files.specs.Refusal.{GivesUnlessMemory, refused};
 ghost use Rattle.dpx_files.specs.Shape.{IsShape};
@@ -76,6 +77,7 @@ pub fn read_job(alloc: Global, bytes: &[u8], need: Need) -> Result<Job, JobBad>
     ensures only_json { json_of bytes.now ≡ None → IsErr result }
     ensures plan { IfOk result (λ job. IfSome (plan_asked job) IsPlan) }
     ensures shape { IfOk result (λ job. IfSome (shape_asked job) IsShape) }
+    ensures events { IfOk result (λ job. IfSome (events_asked job) (λ events. length events ≤ most_events)) }
     ensures kind { IfOk result (λ job. need_of job ≡ need) }
 {
     if bytes.len() > LONGEST_JOB {
