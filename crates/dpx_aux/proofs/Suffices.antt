@@ -8,15 +8,12 @@ use Rattle.dpx_base.specs.declared.aux_port.Entry.{Entry}
 use Rattle.dpx_base.specs.declared.aux_port.Entry.TheVariants.{Waited}
 use Rattle.dpx_base.specs.Port.{answers_in}
 use Rattle.dpx_base.proofs.Port.{answers_in-append}
-use Rattle.dpx_aux.specs.declared.request.Request.{Request}
-use Rattle.dpx_aux.specs.declared.transaction.AuxEnd.{AuxEnd}
-use Rattle.dpx_aux.specs.declared.transaction.AuxEnd.TheVariants.{Spent}
-use Rattle.dpx_aux.specs.declared.transaction.Heard.{Heard}
-use Rattle.dpx_aux.specs.declared.transaction.Heard.TheVariants.{End, InVain}
+use Rattle.dpx_aux.specs.declared.asking.Heard.{Heard}
+use Rattle.dpx_aux.specs.declared.asking.Heard.TheVariants.{End, InVain}
+use Rattle.dpx_aux.specs.declared.asking.LastAnswer.{LastAnswer}
+use Rattle.dpx_aux.specs.Asking.{AsksInTurn, IsInVain, EndsAs, asks_at_most, asked_with}
 use Rattle.dpx_aux.specs.Conversation.{Ends, Waits, ◌>>=◌, Choice, HasFront, Suffices}
-use Rattle.dpx_aux.specs.Request.{address_of}
-use Rattle.dpx_aux.specs.Transaction.{Transaction, IsInVain, EndsAs, heard_from, asks_at_most, asked_with}
-use Rattle.dpx_aux.proofs.Decided.{answers_in-asked_with}
+use Rattle.dpx_aux.proofs.Asked.{answers_in-asked_with}
 
 -- more answers suffice too
 pub more_suffice : {R : Type 0} {part : R → List Entry → Type 0} (m n : ℕ) → m ≤ n → Suffices m part → Suffices n part
@@ -129,22 +126,24 @@ choice_suffices n false c o answers enough =
       few = f.few;
     }
 
--- Behind so many answers in vain, with so many more asks left before the last one: some answer ends the transaction.
-record EndsWithin (request : Request) (before left : ℕ) (answers : List Answer) : Type 0 where
+-- Behind so many answers in vain, with so many more asks left before the last one: some answer ends it.
+record EndsWithin {E : Type 0} (heard_from : Answer → Heard E) (spent : LastAnswer → E) (before left : ℕ)
+    (answers : List Answer) : Type 0 where
   pub tried : List Answer
   pub last : Answer
   pub rest : List Answer
-  pub given : Result (List ℕ) AuxEnd
+  pub given : Result (List ℕ) E
   pub begins : answers ≡ tried ++ last ∷ rest
   pub few : length tried ≤ left
-  pub in_vain : AllByRecursion (λ answer. IsInVain (heard_from request answer)) tried
-  pub ends : EndsAs (address_of request) (before + length tried + 1) (heard_from request last) given
+  pub in_vain : AllByRecursion (λ answer. IsInVain (heard_from answer)) tried
+  pub ends : EndsAs spent (before + length tried + 1) (heard_from last) given
 
-heard_within : (request : Request) (before left : ℕ) (x : Answer) (xs : List Answer) (heard : Heard)
-    → heard_from request x ≡ heard → before + left + 1 ≡ asks_at_most
-    → ((more : ℕ) → left ≡ suc more → EndsWithin request (before + 1) more xs)
-    → EndsWithin request before left (x ∷ xs)
-heard_within request before left x xs (End end) e room rest = record {
+heard_within : {E : Type 0} (heard_from : Answer → Heard E) (spent : LastAnswer → E) (before left : ℕ) (x : Answer)
+    (xs : List Answer) (heard : Heard E)
+    → heard_from x ≡ heard → before + left + 1 ≡ asks_at_most
+    → ((more : ℕ) → left ≡ suc more → EndsWithin heard_from spent (before + 1) more xs)
+    → EndsWithin heard_from spent before left (x ∷ xs)
+heard_within heard_from spent before left x xs (End end) e room rest = record {
   tried = [];
   last = x;
   rest = xs;
@@ -152,20 +151,19 @@ heard_within request before left x xs (End end) e room rest = record {
   begins = refl;
   few = omega arith;
   in_vain = tt;
-  ends = subst (λ (h : Heard). EndsAs (address_of request) (before + 0 + 1) h end) (sym e) refl;
+  ends = subst (λ (h : Heard _). EndsAs spent (before + 0 + 1) h end) (sym e) refl;
 }
-heard_within request before zero x xs (InVain last) e room rest = record {
+heard_within heard_from spent before zero x xs (InVain last) e room rest = record {
   tried = [];
   last = x;
   rest = xs;
-  given = Err (Spent (address_of request) last);
+  given = Err (spent last);
   begins = refl;
   few = omega arith;
   in_vain = tt;
-  ends = subst (λ (h : Heard). EndsAs (address_of request) (before + 0 + 1) h (Err (Spent (address_of request) last)))
-      (sym e) (omega arith, refl);
+  ends = subst (λ (h : Heard _). EndsAs spent (before + 0 + 1) h (Err (spent last))) (sym e) (omega arith, refl);
 }
-heard_within request before (suc more) x xs (InVain last) e room rest =
+heard_within heard_from spent before (suc more) x xs (InVain last) e room rest =
     let r = rest more refl in
     record {
       tried = x ∷ r.tried;
@@ -175,26 +173,28 @@ heard_within request before (suc more) x xs (InVain last) e room rest =
       begins = ap (λ ys. x ∷ ys) r.begins;
       few = omega (arith, r.few);
       in_vain = (subst IsInVain (sym e) tt, r.in_vain);
-      ends = subst (λ (n : ℕ). EndsAs (address_of request) n (heard_from request r.last) r.given) (omega arith) r.ends;
+      ends = subst (λ (n : ℕ). EndsAs spent n (heard_from r.last) r.given) (omega arith) r.ends;
     }
 
-ends_within : (request : Request) (left before : ℕ) (answers : List Answer) → before + left + 1 ≡ asks_at_most
-    → left + 1 ≤ length answers → EndsWithin request before left answers
-ends_within request left before [] room enough = absurd (omega arith)
-ends_within request zero before (x ∷ xs) room enough =
-    heard_within request before zero x xs (heard_from request x) refl room (λ more e. absurd (omega arith))
-ends_within request (suc left) before (x ∷ xs) room enough =
-    heard_within request before (suc left) x xs (heard_from request x) refl room (λ more e.
-    subst (λ (n : ℕ). EndsWithin request (before + 1) n xs) (omega arith)
-    (ends_within request left (before + 1) xs (omega arith) (omega arith)))
+ends_within : {E : Type 0} (heard_from : Answer → Heard E) (spent : LastAnswer → E) (left before : ℕ)
+    (answers : List Answer) → before + left + 1 ≡ asks_at_most → left + 1 ≤ length answers
+    → EndsWithin heard_from spent before left answers
+ends_within heard_from spent left before [] room enough = absurd (omega arith)
+ends_within heard_from spent zero before (x ∷ xs) room enough =
+    heard_within heard_from spent before zero x xs (heard_from x) refl room (λ more e. absurd (omega arith))
+ends_within heard_from spent (suc left) before (x ∷ xs) room enough =
+    heard_within heard_from spent before (suc left) x xs (heard_from x) refl room (λ more e.
+    subst (λ (n : ℕ). EndsWithin heard_from spent (before + 1) n xs) (omega arith)
+    (ends_within heard_from spent left (before + 1) xs (omega arith) (omega arith)))
 
-pub transaction_suffices : (request : Request) → Suffices asks_at_most (Transaction request)
-transaction_suffices request answers enough =
-    let e = ends_within request 7 0 answers (omega arith) (omega arith) in
-    let asked = answers_in-asked_with request (e.tried ++ e.last ∷ []) in
+pub asking_suffices : {E : Type 0} (bytes : List ℕ) (heard_from : Answer → Heard E) (spent : LastAnswer → E)
+    → Suffices asks_at_most (AsksInTurn bytes heard_from spent)
+asking_suffices bytes heard_from spent answers enough =
+    let e = ends_within heard_from spent 7 0 answers (omega arith) (omega arith) in
+    let asked = answers_in-asked_with bytes (e.tried ++ e.last ∷ []) in
     record {
       given = e.given;
-      history = asked_with request (e.tried ++ e.last ∷ []);
+      history = asked_with bytes (e.tried ++ e.last ∷ []);
       rest = e.rest;
       done = record {
         tried = e.tried;
@@ -202,8 +202,7 @@ transaction_suffices request answers enough =
         few = omega (arith, e.few);
         in_vain = e.in_vain;
         asked = refl;
-        ends = subst (λ (n : ℕ). EndsAs (address_of request) n (heard_from request e.last) e.given)
-            (omega arith) e.ends;
+        ends = subst (λ (n : ℕ). EndsAs spent n (heard_from e.last) e.given) (omega arith) e.ends;
       };
       begins = e.begins ∙ sym (ap (λ all. all ++ e.rest) asked ∙ append_assoc e.tried (e.last ∷ []) e.rest);
       few = omega (arith, ap length asked, length-append e.tried (e.last ∷ []), e.few);

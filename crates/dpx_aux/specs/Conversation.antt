@@ -34,6 +34,10 @@ pub record Then {A B E : Type 0} (first : Result A E → List Entry → Type 0)
   pub begins : first middle front
   pub goes_on : MatchResult middle (λ value. next value given back) (λ error. (given ≡ Err error) × (back ≡ []))
 
+-- no conversation at all
+pub record Never {R : Type 0} (given : R) (history : List Entry) : Type 0 where
+  pub never : ⊥
+
 infixl 10 ◌>>=◌
 abbrev pub ◌>>=◌ : {A B E : Type 0} → (Result A E → List Entry → Type 0) → (A → Result B E → List Entry → Type 0)
     → Result B E → List Entry → Type 0

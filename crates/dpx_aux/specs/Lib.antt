@@ -1,4 +1,5 @@
 pub mod Asked
+pub mod Asking
 pub mod Conversation
 pub mod Reply
 pub mod Request

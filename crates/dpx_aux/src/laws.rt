@@ -1,7 +1,8 @@
 //! Laws of the definitions. Each function's contract is the law.
 ghost use Rattle.dpx_aux.specs.declared.request.Request.{Request};
 ghost use Rattle.dpx_aux.specs.Conversation.{IsDecided, Suffices};
-ghost use Rattle.dpx_aux.specs.Transaction.{Transaction, asks_at_most};
+ghost use Rattle.dpx_aux.specs.Asking.{asks_at_most};
+ghost use Rattle.dpx_aux.specs.Transaction.{Transaction};
 
 /// For given answers a request has one transaction, and it has one end.
 pub fn one_transaction()

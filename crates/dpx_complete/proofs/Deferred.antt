@@ -11,10 +11,11 @@ use Rattle.dpx_aux.specs.declared.request.Request.{Request}
 use Rattle.dpx_aux.specs.declared.request.Request.TheVariants.{Read}
 use Rattle.dpx_aux.specs.declared.transaction.AuxEnd.{AuxEnd}
 use Rattle.dpx_aux.specs.declared.transaction.AuxEnd.TheVariants.{Spent}
-use Rattle.dpx_aux.specs.declared.transaction.LastAnswer.TheVariants.{Defer}
+use Rattle.dpx_aux.specs.declared.asking.LastAnswer.TheVariants.{Defer}
 use Rattle.dpx_aux.specs.Conversation.{◌>>=◌}
 use Rattle.dpx_aux.specs.Request.{encode_request, read_request, address_of}
-use Rattle.dpx_aux.specs.Transaction.{Transaction, EndsAs, heard_from, asked_with}
+use Rattle.dpx_aux.specs.Asking.{EndsAs, asked_with}
+use Rattle.dpx_aux.specs.Transaction.{Transaction, heard_from, spent}
 use Rattle.dpx_dpcd.specs.Cell.{CellFacts}
 use Rattle.dpx_dpcd.specs.RegFile.{SinkFacts}
 use Rattle.dpx_dpcd.specs.Registers.{ReadsBlock}
@@ -29,14 +30,14 @@ use Rattle.dpx_complete.proofs.SinkAnswers.{request_read}
 spends : (sink : SinkFacts) (defers : ℕ) (registers : ℕ → ℕ) (request : Request) (last : Answer)
     (given : Result (List ℕ) AuxEnd) → 8 ≤ defers → read_request (encode_request request) ≡ Ok request
     → (tried : List Answer) (place asked : ℕ) (state : SinkState) → Stands defers place registers state
-    → place + length tried < 8 → EndsAs (address_of request) asked (heard_from request last) given
-    → Answers sink defers state (asked_with request (tried ++ last ∷ []))
+    → place + length tried < 8 → EndsAs (spent (address_of request)) asked (heard_from request last) given
+    → Answers sink defers state (asked_with (encode_request request) (tried ++ last ∷ []))
     → given ≡ Err (Spent (address_of request) Defer)
 spends sink defers registers request last given many reads [] place asked state s few ends answers =
     let heard : last ≡ Bytes (0x20 ∷ []) = answers.0 ∙ ap (sink_answer sink defers state) reads
     ∙ (deferred sink defers place registers state request s (omega arith)).0 in
     let spent : (asked ≡ 8) × (given ≡ Err (Spent (address_of request) Defer)) =
-    subst (λ (answer : Answer). EndsAs (address_of request) asked (heard_from request answer) given) heard ends in
+    subst (λ (answer : Answer). EndsAs (spent (address_of request)) asked (heard_from request answer) given) heard ends in
     spent.1
 spends sink defers registers request last given many reads (x ∷ xs) place asked state s few ends answers =
     let later : Stands defers (place + 1) registers
@@ -69,6 +70,7 @@ then_fails sink defers state first next why f given history t answers =
 
 first_fails : (sink : SinkFacts) (defers : ℕ) → 8 ≤ defers
     → FailsWith sink defers new_sink (Transaction (Read 0x00000 16)) (Spent 0x00000 Defer)
+unfolding Transaction
 first_fails sink defers many given history t answers =
     spends sink defers (λ address. 0) (Read 0x00000 16) t.last given many
     (request_read (Read 0x00000 16) (record {

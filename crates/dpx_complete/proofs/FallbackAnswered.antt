@@ -4,6 +4,7 @@ use Rattle.std.proofs.Common.{Option, Some, None, Result, Ok, Err, MatchResult}
 use Rattle.std.specs.Prelude.{⊤}
 use Rattle.dpx_base.specs.declared.aux_port.Entry.{Entry}
 use Rattle.dpx_base.specs.declared.link.Link.{Link}
+use Rattle.dpx_aux.specs.Conversation.{Never}
 use Rattle.dpx_aux.specs.declared.transaction.AuxEnd.{AuxEnd}
 use Rattle.dpx_dpcd.specs.declared.caps.Caps.{Caps}
 use Rattle.dpx_dpcd.specs.declared.status.Drive.{Drive}
@@ -15,7 +16,7 @@ use Rattle.dpx_phase.specs.declared.phase_end.PhaseEnd.TheVariants.{Done, Failed
 use Rattle.dpx_link.specs.Attempt.{Attempt, equalised}
 use Rattle.dpx_link.specs.Fallback.{next_of, fall_back, after_failed_recovery, after_failed_equalisation}
 use Rattle.dpx_link.specs.Inner.{AttemptGives, EndOfAttempt, StepBehind, TrainingGives}
-use Rattle.dpx_link.specs.Training.{Never, Attempts, AfterAttempt, end_of}
+use Rattle.dpx_link.specs.Training.{Attempts, AfterAttempt, end_of}
 use Rattle.dpx_complete.specs.Complete.{EndsAtFall}
 use Rattle.dpx_complete.specs.Drive.{IsAskedFor}
 use Rattle.dpx_complete.specs.Fall.{all_recover, all_equalise, along, fall_from}

@@ -9,7 +9,8 @@ use Rattle.dpx_aux.specs.declared.request.Request.TheVariants.{Read, Write}
 use Rattle.dpx_aux.specs.declared.transaction.AuxEnd.{AuxEnd}
 use Rattle.dpx_aux.specs.Conversation.{Ends, Waits, ◌>>=◌, Choice}
 use Rattle.dpx_aux.specs.Request.{IsValid, address_of}
-use Rattle.dpx_aux.specs.Transaction.{Transaction, EndsAs, heard_from}
+use Rattle.dpx_aux.specs.Asking.{EndsAs}
+use Rattle.dpx_aux.specs.Transaction.{Transaction, heard_from, spent}
 use Rattle.dpx_dpcd.specs.declared.status.Status6.{Status6}
 use Rattle.dpx_dpcd.specs.RegFile.{SinkFacts, brought, registers_after, shown, written}
 use Rattle.dpx_dpcd.specs.Registers.{ReadsBlock, ReadsStatus, Writes}
@@ -125,9 +126,10 @@ Transacted sink request Before bytes now =
 
 meets_transaction : {sink : SinkFacts} {defers : ℕ} (request : Request) (Before : (ℕ → ℕ) → Type 0) → defers ≤ 7
     → IsValid request → Meets sink defers (Transaction request) Before (Gives (Transacted sink request Before))
+unfolding Transaction
 meets_transaction {sink = sink} {defers = defers} request Before few valid = record {
   meets = λ registers state given history s b t a.
-      let ends = subst (λ (n : ℕ). EndsAs (address_of request) n (heard_from request t.last) given)
+      let ends = subst (λ (n : ℕ). EndsAs (spent (address_of request)) n (heard_from request t.last) given)
       (let e : length t.tried + 1 ≡ 0 + length t.tried + 1 = omega arith in e) t.ends in
       let done = transacts sink defers registers request t.last given few (request_read request valid) t.tried 0 state s
       (omega arith) t.in_vain ends (subst (Answers sink defers state) t.asked a) in

@@ -18,10 +18,11 @@ use Rattle.dpx_aux.specs.declared.request.Request.{Request}
 use Rattle.dpx_aux.specs.declared.request.Request.TheVariants.{Read, Write}
 use Rattle.dpx_aux.specs.declared.transaction.AuxEnd.{AuxEnd}
 use Rattle.dpx_aux.specs.declared.transaction.AuxEnd.TheVariants.{Spent}
-use Rattle.dpx_aux.specs.declared.transaction.LastAnswer.TheVariants.{Defer}
+use Rattle.dpx_aux.specs.declared.asking.LastAnswer.TheVariants.{Defer}
 use Rattle.dpx_aux.specs.declared.reply.Reply.TheVariants.{Ack, Malformed}
 use Rattle.dpx_aux.specs.Request.{IsValid, encode_request, read_request, address_of, answered_length}
-use Rattle.dpx_aux.specs.Transaction.{IsInVain, EndsAs, heard_from, meaning, asked_with}
+use Rattle.dpx_aux.specs.Asking.{IsInVain, EndsAs, asked_with}
+use Rattle.dpx_aux.specs.Transaction.{heard_from, meaning, spent}
 use Rattle.dpx_dpcd.specs.LoadPort.{requests_in}
 use Rattle.dpx_dpcd.specs.RegFile.{SinkFacts, brought, registers_after}
 use Rattle.dpx_dpcd.specs.SinkPlan.{SinkState, new_sink, is_deferred, sink_answer, after_request, sink_answers}
@@ -125,10 +126,10 @@ not_in_vain request payload e v =
 -- it ends the transaction
 ends_ok : (request : Request) (payload : List ℕ) (asked : ℕ) (given : Result (List ℕ) AuxEnd)
     → length payload ≡ answered_length request
-    → EndsAs (address_of request) asked (heard_from request (Bytes (0x00 ∷ payload))) given → given ≡ Ok payload
+    → EndsAs (spent (address_of request)) asked (heard_from request (Bytes (0x00 ∷ payload))) given → given ≡ Ok payload
 ends_ok request payload asked given e ends =
     let test : (length payload == answered_length request) ≡ true = grind (arith, common_steps) in
-    subst (λ (b : Bool). EndsAs (address_of request) asked
+    subst (λ (b : Bool). EndsAs (spent (address_of request)) asked
     (meaning (address_of request) (if b then Ack payload else Malformed)) given) test ends
 
 length-brought : (sink : SinkFacts) (registers : ℕ → ℕ) (request : Request)
@@ -181,30 +182,30 @@ Acknowledged sink defers registers request given now =
 
 last_ask : (sink : SinkFacts) (defers place asked : ℕ) (registers : ℕ → ℕ) (state : SinkState) (request : Request)
     (last : Answer) (given : Result (List ℕ) AuxEnd) → defers ≤ 7 → asked ≡ place + 1
-    → EndsAs (address_of request) asked (heard_from request last) given
+    → EndsAs (spent (address_of request)) asked (heard_from request last) given
     → HeardInRhythm sink defers place registers state request last
     → Acknowledged sink defers registers request given (after_request defers state (Ok request))
 last_ask sink defers place asked registers state request last given few counted ends (in_rhythm room e s) =
     let early : (asked ≡ 8) × (given ≡ Err (Spent (address_of request) Defer)) =
-    subst (λ (a : Answer). EndsAs (address_of request) asked (heard_from request a) given) e ends in
+    subst (λ (a : Answer). EndsAs (spent (address_of request)) asked (heard_from request a) given) e ends in
     let eight : asked ≡ 8 = early.0 in
     absurd (omega arith)
 last_ask sink defers place asked registers state request last given few counted ends (at_its_end e s) = (
   ends_ok request _ asked given (length-brought sink registers request)
-      (subst (λ (a : Answer). EndsAs (address_of request) asked (heard_from request a) given) e ends),
+      (subst (λ (a : Answer). EndsAs (spent (address_of request)) asked (heard_from request a) given) e ends),
   s,
 )
 
 more_asks : (sink : SinkFacts) (defers : ℕ) (registers : ℕ → ℕ) (request : Request) (last : Answer)
     (given : Result (List ℕ) AuxEnd) → defers ≤ 7 → (tried : List Answer) (place : ℕ) (state : SinkState) (x : Answer)
     → ((next : SinkState) → Stands defers (place + 1) registers next → place + 1 ≤ defers
-    → Answers sink defers next (asked_with request (tried ++ last ∷ []))
+    → Answers sink defers next (asked_with (encode_request request) (tried ++ last ∷ []))
     → Acknowledged sink defers registers request given
-    (state_after defers next (asked_with request (tried ++ last ∷ [])))) → IsInVain (heard_from request x)
-    → Answers sink defers (after_request defers state (Ok request)) (asked_with request (tried ++ last ∷ []))
+    (state_after defers next (asked_with (encode_request request) (tried ++ last ∷ [])))) → IsInVain (heard_from request x)
+    → Answers sink defers (after_request defers state (Ok request)) (asked_with (encode_request request) (tried ++ last ∷ []))
     → HeardInRhythm sink defers place registers state request x
     → Acknowledged sink defers registers request given
-    (state_after defers (after_request defers state (Ok request)) (asked_with request (tried ++ last ∷ [])))
+    (state_after defers (after_request defers state (Ok request)) (asked_with (encode_request request) (tried ++ last ∷ [])))
 more_asks sink defers registers request last given few tried place state x rest v answers (in_rhythm room e s) =
     rest (after_request defers state (Ok request)) s (omega arith) answers
 more_asks sink defers registers request last given few tried place state x rest v answers (at_its_end e s) =
@@ -216,10 +217,10 @@ pub transacts : (sink : SinkFacts) (defers : ℕ) (registers : ℕ → ℕ) (req
     (given : Result (List ℕ) AuxEnd) → defers ≤ 7 → read_request (encode_request request) ≡ Ok request
     → (tried : List Answer) (place : ℕ) (state : SinkState) → Stands defers place registers state → place ≤ defers
     → AllByRecursion (λ answer. IsInVain (heard_from request answer)) tried
-    → EndsAs (address_of request) (place + length tried + 1) (heard_from request last) given
-    → Answers sink defers state (asked_with request (tried ++ last ∷ []))
+    → EndsAs (spent (address_of request)) (place + length tried + 1) (heard_from request last) given
+    → Answers sink defers state (asked_with (encode_request request) (tried ++ last ∷ []))
     → Acknowledged sink defers registers request given
-    (state_after defers state (asked_with request (tried ++ last ∷ [])))
+    (state_after defers state (asked_with (encode_request request) (tried ++ last ∷ [])))
 transacts sink defers registers request last given few reads [] place state s within vain ends answers =
     let heard = hears sink defers place registers state request last s within
     (answers.0 ∙ ap (sink_answer sink defers state) reads) in
@@ -230,11 +231,11 @@ transacts sink defers registers request last given few reads (x ∷ xs) place st
     let heard = hears sink defers place registers state request x s within
     (answers.0 ∙ ap (sink_answer sink defers state) reads) in
     let counted : place + length (x ∷ xs) + 1 ≡ place + 1 + length xs + 1 = omega arith in
-    let later = subst (λ (n : ℕ). EndsAs (address_of request) n (heard_from request last) given) counted ends in
+    let later = subst (λ (n : ℕ). EndsAs (spent (address_of request)) n (heard_from request last) given) counted ends in
     let behind = subst (λ (r : Result Request AuxBad). Answers sink defers (after_request defers state r)
-    (asked_with request (xs ++ last ∷ []))) reads answers.1 in
+    (asked_with (encode_request request) (xs ++ last ∷ []))) reads answers.1 in
     subst (λ (r : Result Request AuxBad). Acknowledged sink defers registers request given
-    (state_after defers (after_request defers state r) (asked_with request (xs ++ last ∷ [])))) (sym reads)
+    (state_after defers (after_request defers state r) (asked_with (encode_request request) (xs ++ last ∷ [])))) (sym reads)
     (more_asks sink defers registers request last given few xs place state x
     (λ next t room a. transacts sink defers registers request last given few reads xs
     (place + 1) next t room vain.1 later a) vain.0 behind heard)

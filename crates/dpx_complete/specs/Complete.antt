@@ -4,7 +4,7 @@ use Rattle.dpx_base.specs.declared.aux_port.Entry.{Entry}
 use Rattle.dpx_base.specs.declared.link.Link.{Link}
 use Rattle.dpx_base.specs.Port.{PortState, answers_in}
 use Rattle.dpx_aux.specs.declared.transaction.AuxEnd.TheVariants.{Spent}
-use Rattle.dpx_aux.specs.declared.transaction.LastAnswer.TheVariants.{Defer}
+use Rattle.dpx_aux.specs.declared.asking.LastAnswer.TheVariants.{Defer}
 use Rattle.dpx_aux.specs.Conversation.{Converses}
 use Rattle.dpx_dpcd.specs.declared.caps.Caps.{Caps}
 use Rattle.dpx_dpcd.specs.declared.caps.CapsBad.{CapsBad}

@@ -1,8 +1,9 @@
 -- How many answers suffice for a read or a write of a sink's registers.
 use Rattle.std.proofs.Common.{ℕ, List}
 use Rattle.dpx_aux.specs.Conversation.{Suffices}
-use Rattle.dpx_aux.specs.Transaction.{asks_at_most}
-use Rattle.dpx_aux.proofs.Suffices.{ends_suffice, then_suffices, transaction_suffices}
+use Rattle.dpx_aux.specs.Asking.{asks_at_most}
+use Rattle.dpx_aux.proofs.Suffices.{ends_suffice, then_suffices}
+use Rattle.dpx_aux.proofs.Transacts.{transaction_suffices}
 use Rattle.dpx_dpcd.specs.Registers.{ReadsBlock, ReadsStatus, Writes}
 
 pub writes_suffice : (address : ℕ) (bytes : List ℕ) → Suffices asks_at_most (Writes address bytes)

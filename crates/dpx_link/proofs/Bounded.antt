@@ -11,8 +11,9 @@ use Rattle.dpx_base.specs.Port.{asks}
 use Rattle.dpx_base.proofs.Port.{asks-append}
 use Rattle.dpx_aux.specs.declared.request.Request.{Request}
 use Rattle.dpx_aux.specs.declared.transaction.AuxEnd.{AuxEnd}
-use Rattle.dpx_aux.specs.Conversation.{Ends, Waits, ◌>>=◌, Choice, HistoriesAre}
-use Rattle.dpx_aux.specs.Transaction.{Transaction, asked_with}
+use Rattle.dpx_aux.specs.Conversation.{Ends, Waits, ◌>>=◌, Choice, Never, HistoriesAre}
+use Rattle.dpx_aux.specs.Transaction.{Transaction}
+use Rattle.dpx_aux.proofs.Transacts.{transaction_asks}
 use Rattle.dpx_dpcd.specs.declared.caps.Caps.{Caps}
 use Rattle.dpx_dpcd.specs.declared.caps.CapsBad.{CapsBad}
 use Rattle.dpx_dpcd.specs.declared.pattern.Pattern.{Pattern}
@@ -32,7 +33,7 @@ use Rattle.dpx_link.specs.declared.train_end.Verdict.{Verdict}
 use Rattle.dpx_link.specs.Attempt.{Attempt, Configures, PhasesInTurn, AfterRecovery, Equalises}
 use Rattle.dpx_link.specs.Fallback.{next_of}
 use Rattle.dpx_link.specs.Laws.{OnlyWaits, MadeOf, MadeOfAtMost}
-use Rattle.dpx_link.specs.Training.{Capabilities, Capable, Never, Attempts, AfterAttempt, TrainsWith, TrainOutcome}
+use Rattle.dpx_link.specs.Training.{Capabilities, Capable, Attempts, AfterAttempt, TrainsWith, TrainOutcome}
 use Rattle.dpx_link.specs.Training.{Training, attempts_at_most}
 
 waits-append : (xs ys : List Entry) → OnlyWaits xs → OnlyWaits ys → OnlyWaits (xs ++ ys)
@@ -294,21 +295,6 @@ asks-waits : (xs : List Entry) → OnlyWaits xs → asks xs ≡ 0
 asks-waits [] w = refl
 asks-waits (Waited micros ∷ xs) w = asks-waits xs w
 asks-waits (Asked request answer ∷ xs) w = absurd w
-
-asks-asked_with : (request : Request) (answers : List Answer) → asks (asked_with request answers) ≡ length answers
-asks-asked_with request [] = refl
-asks-asked_with request (x ∷ xs) = omega (arith, asks-asked_with request xs)
-
-transaction_asks : (request : Request) (given : Result (List ℕ) AuxEnd) (history : List Entry)
-    → Transaction request given history → asks history ≤ 8
-transaction_asks request given history t =
-    omega (
-      arith,
-      ap asks t.asked,
-      asks-asked_with request (t.tried ++ t.last ∷ []),
-      length-append t.tried (t.last ∷ []),
-      t.few,
-    )
 
 made_asks : (n : ℕ) (history : List Entry) → MadeOf n history → asks history ≤ 8 * n
 unfolding MadeOf

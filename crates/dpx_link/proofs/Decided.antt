@@ -6,7 +6,7 @@ use Rattle.dpx_base.specs.declared.link.Link.{Link}
 use Rattle.dpx_base.specs.Port.{asks, answers_in}
 use Rattle.dpx_aux.specs.declared.transaction.AuxEnd.{AuxEnd}
 use Rattle.dpx_aux.specs.Conversation.{IsDecided}
-use Rattle.dpx_aux.proofs.Decided.{ends_decided, choice_decided, then_decided, answers_regrouped}
+use Rattle.dpx_aux.proofs.Decided.{ends_decided, choice_decided, then_decided, never_decided, answers_regrouped}
 use Rattle.dpx_dpcd.specs.declared.caps.Caps.{Caps}
 use Rattle.dpx_dpcd.specs.declared.caps.CapsBad.{CapsBad}
 use Rattle.dpx_dpcd.specs.declared.pattern.Pattern.{Pattern}
@@ -24,7 +24,7 @@ use Rattle.dpx_link.specs.declared.fallback.Next.TheVariants.{Try, Stop}
 use Rattle.dpx_link.specs.declared.train_end.Verdict.{Verdict}
 use Rattle.dpx_link.specs.Attempt.{Attempt, Configures, PhasesInTurn, AfterRecovery, Equalises, equalised}
 use Rattle.dpx_link.specs.Fallback.{next_of}
-use Rattle.dpx_link.specs.Training.{Capabilities, Capable, Never, Attempts, AfterAttempt, TrainsWith, TrainOutcome}
+use Rattle.dpx_link.specs.Training.{Capabilities, Capable, Attempts, AfterAttempt, TrainsWith, TrainOutcome}
 use Rattle.dpx_link.specs.Training.{Training, attempts_at_most, end_of}
 
 recovery_decided : (link : Link) → IsDecided (Recovery link)
@@ -72,9 +72,6 @@ next_decided : (more : Link → Result Verdict AuxEnd → List Entry → Type 0)
     → (next : Next) → IsDecided (AfterAttempt more next)
 next_decided more d (Try link) = d link
 next_decided more d (Stop verdict) = ends_decided _
-
-never_decided : {R : Type 0} → IsDecided (Never {R = R})
-never_decided r s xs ys later after a b e = absurd a.never
 
 attempts_decided : (left : ℕ) (caps : Caps) (first link : Link) → IsDecided (Attempts left caps first link)
 unfolding Attempts

@@ -16,7 +16,8 @@ use Rattle.dpx_aux.specs.declared.transaction.AuxEnd.{AuxEnd}
 use Rattle.dpx_aux.specs.Asked.{AsksNone, reads_of, writes_of}
 use Rattle.dpx_aux.specs.Conversation.{AlwaysIs, HistoriesAre, Ends, ◌>>=◌}
 use Rattle.dpx_aux.specs.Request.{encode_request, read_request}
-use Rattle.dpx_aux.specs.Transaction.{asked_with}
+use Rattle.dpx_aux.specs.Asking.{asked_with}
+use Rattle.dpx_aux.specs.Transaction.{Transaction}
 use Rattle.dpx_dpcd.specs.declared.caps.Caps.{Caps}
 use Rattle.dpx_dpcd.specs.declared.caps.CapsBad.{CapsBad}
 use Rattle.dpx_dpcd.specs.declared.status.Drive.{Drive}
@@ -256,7 +257,7 @@ attempts_read (suc left) caps first link given history t =
 
 -- one request, asked again and again, is none of these
 asked_none : (test : Result Request AuxBad → Bool) (request : Request) (answers : List Answer)
-    → test (read_request (encode_request request)) ≡ false → AsksNone test (asked_with request answers)
+    → test (read_request (encode_request request)) ≡ false → AsksNone test (asked_with (encode_request request) answers)
 asked_none test request [] none = tt
 asked_none test request (answer ∷ answers) none = (none, asked_none test request answers none)
 
@@ -271,6 +272,7 @@ written_none test (Err error) given back on = subst (AsksNone test) (sym on.1) t
 writes_none : (test : Result Request AuxBad → Bool) (address : ℕ) (bytes : List ℕ)
     → test (read_request (encode_request (Write address bytes))) ≡ false
     → HistoriesAre (Writes address bytes) (AsksNone test)
+unfolding Transaction
 writes_none test address bytes none given history t =
     subst (AsksNone test) (sym t.joined)
     (AsksNone-append test t.front t.back

@@ -4,7 +4,7 @@ use Rattle.std.proofs.Common.{Option, Some, None, Result, Ok, Err}
 use Rattle.dpx_base.specs.declared.link.Link.{Link}
 use Rattle.dpx_base.specs.Port.{asks}
 use Rattle.dpx_aux.specs.Conversation.{Suffices}
-use Rattle.dpx_aux.specs.Transaction.{asks_at_most}
+use Rattle.dpx_aux.specs.Asking.{asks_at_most}
 use Rattle.dpx_aux.proofs.Suffices.{more_suffice, ends_suffice, then_suffices, choice_suffices, left_behind}
 use Rattle.dpx_aux.proofs.Suffices.{begins_joined, few_joined}
 use Rattle.dpx_dpcd.specs.declared.caps.Caps.{Caps}

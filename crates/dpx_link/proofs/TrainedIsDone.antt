@@ -6,7 +6,7 @@ use Rattle.dpx_base.specs.declared.aux_port.Entry.{Entry}
 use Rattle.dpx_base.specs.declared.link.Link.{Link}
 use Rattle.dpx_base.specs.Port.{asks}
 use Rattle.dpx_aux.specs.declared.transaction.AuxEnd.{AuxEnd}
-use Rattle.dpx_aux.specs.Conversation.{Ends, ◌>>=◌, ResultsAre}
+use Rattle.dpx_aux.specs.Conversation.{Ends, ◌>>=◌, ResultsAre, Never}
 use Rattle.dpx_dpcd.specs.declared.caps.Caps.{Caps}
 use Rattle.dpx_dpcd.specs.declared.caps.CapsBad.{CapsBad}
 use Rattle.dpx_dpcd.specs.declared.pattern.Pattern.{Pattern}
@@ -26,7 +26,7 @@ use Rattle.dpx_link.specs.declared.train_end.Verdict.{Verdict}
 use Rattle.dpx_link.specs.declared.train_end.Verdict.TheVariants as verdict
 use Rattle.dpx_link.specs.Attempt.{Attempt, PhasesInTurn, AfterRecovery, Equalises, equalised, AttemptIsDone}
 use Rattle.dpx_link.specs.Fallback.{next_of, fall_back}
-use Rattle.dpx_link.specs.Training.{Capable, Never, Attempts, AfterAttempt, TrainsWith, TrainOutcome, Training}
+use Rattle.dpx_link.specs.Training.{Capable, Attempts, AfterAttempt, TrainsWith, TrainOutcome, Training}
 use Rattle.dpx_link.specs.Training.{attempts_at_most, end_of, TrainedIsDone, VerdictIsDone}
 
 -- what follows the first part gives only such values

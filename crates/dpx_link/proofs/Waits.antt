@@ -10,7 +10,8 @@ use Rattle.dpx_base.proofs.Waits.{waits-append, length-entries}
 use Rattle.dpx_aux.specs.declared.request.Request.{Request}
 use Rattle.dpx_aux.specs.declared.transaction.AuxEnd.{AuxEnd}
 use Rattle.dpx_aux.specs.Conversation.{Ends, Waits, ◌>>=◌, Choice, HistoriesAre}
-use Rattle.dpx_aux.specs.Transaction.{Transaction, asked_with}
+use Rattle.dpx_aux.specs.Asking.{asked_with}
+use Rattle.dpx_aux.specs.Transaction.{Transaction}
 use Rattle.dpx_dpcd.specs.declared.caps.Caps.{Caps}
 use Rattle.dpx_dpcd.specs.declared.caps.CapsBad.{CapsBad}
 use Rattle.dpx_dpcd.specs.declared.pattern.Pattern.{Pattern}
@@ -50,13 +51,14 @@ ends_waits n value given history e = no_entries n history e.nothing
 wait_waits : {E : Type 0} (micros : ℕ) → WaitsAtMost 1 (Waits {E = E} micros)
 wait_waits micros given history w = omega (arith, ap waits w.waited)
 
-asked_waits : (request : Request) (answers : List Answer) → waits (asked_with request answers) ≡ 0
-asked_waits request [] = refl
-asked_waits request (x ∷ xs) = asked_waits request xs
+asked_waits : (bytes : List ℕ) (answers : List Answer) → waits (asked_with bytes answers) ≡ 0
+asked_waits bytes [] = refl
+asked_waits bytes (x ∷ xs) = asked_waits bytes xs
 
 transaction_waits : (request : Request) → WaitsAtMost 0 (Transaction request)
+unfolding Transaction
 transaction_waits request given history t =
-    omega (arith, ap waits t.asked, asked_waits request (t.tried ++ t.last ∷ []))
+    omega (arith, ap waits t.asked, asked_waits _ (t.tried ++ t.last ∷ []))
 
 next_waits : {A B E : Type 0} (n : ℕ) (next : A → Result B E → List Entry → Type 0)
     → ((value : A) → WaitsAtMost n (next value)) → (middle : Result A E) (given : Result B E) (back : List Entry)

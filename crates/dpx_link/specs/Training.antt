@@ -4,8 +4,8 @@ use Rattle.dpx_base.specs.declared.aux_port.Entry.{Entry}
 use Rattle.dpx_base.specs.declared.link.Link.{Link}
 use Rattle.dpx_base.specs.Port.{asks}
 use Rattle.dpx_aux.specs.declared.transaction.AuxEnd.{AuxEnd}
-use Rattle.dpx_aux.specs.Conversation.{Ends, ◌>>=◌, Choice}
-use Rattle.dpx_aux.specs.Transaction.{asks_at_most}
+use Rattle.dpx_aux.specs.Conversation.{Ends, ◌>>=◌, Choice, Never}
+use Rattle.dpx_aux.specs.Asking.{asks_at_most}
 use Rattle.dpx_dpcd.specs.declared.caps.Caps.{Caps}
 use Rattle.dpx_dpcd.specs.declared.caps.CapsBad.{CapsBad}
 use Rattle.dpx_dpcd.specs.Caps.{has_extended, caps_read, caps_start}
@@ -27,10 +27,6 @@ unfoldable pub Capabilities : Result (List ℕ) AuxEnd → List Entry → Type 0
 Capabilities = do
   block ← ReadsBlock dpcd_rev
   Choice (has_extended block) (ReadsBlock dp13_dpcd_rev) (Ends (Ok block))
-
--- no conversation at all
-pub record Never {R : Type 0} (given : R) (history : List Entry) : Type 0 where
-  pub never : ⊥
 
 -- behind an attempt: more, from the next configuration on, or the end
 abbrev pub AfterAttempt : (Link → Result Verdict AuxEnd → List Entry → Type 0)

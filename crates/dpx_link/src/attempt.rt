@@ -1,7 +1,7 @@
 ghost use Rattle.std.specs.Prelude.{◌≡◌, ◌+◌, ◌*◌, ◌≤◌, IfOk};
 ghost use Rattle.dpx_base.specs.Asks.{CanAsk, AsksAtMost};
 ghost use Rattle.dpx_aux.specs.Conversation.{Converses};
-ghost use Rattle.dpx_aux.specs.Transaction.{asks_at_most};
+ghost use Rattle.dpx_aux.specs.Asking.{asks_at_most};
 ghost use Rattle.dpx_phase.specs.Recovery.{recovery_asks};
 ghost use Rattle.dpx_phase.specs.Equalisation.{equalisation_asks};
 ghost use Rattle.dpx_link.specs.Attempt.{Attempt, Configures, PhasesInTurn, AttemptIsDone, lanes_byte, equalised};

@@ -1,7 +1,7 @@
 ghost use Rattle.std.specs.Prelude.{◌≡◌, ◌+◌, ◌*◌, ◌≤◌, IfOk};
 ghost use Rattle.dpx_base.specs.Asks.{CanAsk, AsksAtMost};
 ghost use Rattle.dpx_aux.specs.Conversation.{Converses};
-ghost use Rattle.dpx_aux.specs.Transaction.{asks_at_most};
+ghost use Rattle.dpx_aux.specs.Asking.{asks_at_most};
 ghost use Rattle.dpx_link.specs.Attempt.{attempt_transactions};
 ghost use Rattle.dpx_link.specs.Training.{Capabilities, Attempts, TrainsWith, TrainOutcome, Training};
 ghost use Rattle.dpx_link.specs.Training.{requests_told, TrainedIsDone, VerdictIsDone, attempts_at_most, training_asks};

@@ -1,7 +1,7 @@
 ghost use Rattle.std.specs.Prelude.{◌≡◌, ◌+◌, ◌*◌, ◌<◌, ◌≤◌, ◌≢◌, IfOk, IfSome, IfNone};
 ghost use Rattle.dpx_base.specs.Asks.{CanAsk, AsksAtMost};
 ghost use Rattle.dpx_aux.specs.Conversation.{Converses};
-ghost use Rattle.dpx_aux.specs.Transaction.{asks_at_most};
+ghost use Rattle.dpx_aux.specs.Asking.{asks_at_most};
 ghost use Rattle.dpx_dpcd.specs.declared.pattern.Pattern.{Pattern};
 ghost use Rattle.dpx_dpcd.specs.Status.{cr_done, eq_done};
 ghost use Rattle.dpx_phase.specs.Endings.{equalisation_reads, equalisation_end};

@@ -1,7 +1,7 @@
 ghost use Rattle.std.specs.Prelude.{◌≡◌, ℕ, ◌+◌, ◌*◌, ◌<◌, ◌≤◌, nat_le, if◌then◌else◌, IfOk, IfSome, IfNone};
 ghost use Rattle.dpx_base.specs.Asks.{CanAsk, AsksAtMost};
 ghost use Rattle.dpx_aux.specs.Conversation.{Converses};
-ghost use Rattle.dpx_aux.specs.Transaction.{asks_at_most};
+ghost use Rattle.dpx_aux.specs.Asking.{asks_at_most};
 ghost use Rattle.dpx_dpcd.specs.declared.pattern.Pattern.TheVariants.{Tps1};
 ghost use Rattle.dpx_dpcd.specs.Status.{cr_done, status_level};
 ghost use Rattle.dpx_phase.specs.Drives.{no_drive, at_full_swing, same_swings};

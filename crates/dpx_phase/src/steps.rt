@@ -1,6 +1,6 @@
 ghost use Rattle.dpx_base.specs.Asks.{CanAsk, AsksAtMost};
 ghost use Rattle.dpx_aux.specs.Conversation.{Converses};
-ghost use Rattle.dpx_aux.specs.Transaction.{asks_at_most};
+ghost use Rattle.dpx_aux.specs.Asking.{asks_at_most};
 ghost use Rattle.dpx_phase.specs.Phase.{Starts, Adjusts, ReadsLater};
 
 use dpx_aux::AuxEnd;

@@ -1,4 +1,4 @@
-use Rattle.dpx_aux.proofs.Decided.{transaction_decided}
+use Rattle.dpx_aux.proofs.Transacts.{transaction_decided}
 use Rattle.dpx_aux.proofs.laws.one_transaction.Goals as goal
 
 pub returns : goal.returns

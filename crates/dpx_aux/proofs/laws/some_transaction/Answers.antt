@@ -1,4 +1,4 @@
-use Rattle.dpx_aux.proofs.Suffices.{transaction_suffices}
+use Rattle.dpx_aux.proofs.Transacts.{transaction_suffices}
 use Rattle.dpx_aux.proofs.laws.some_transaction.Goals as goal
 
 pub returns : goal.returns

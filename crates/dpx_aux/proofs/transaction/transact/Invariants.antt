@@ -1,7 +1,0 @@
-use Rattle.std.proofs.Common.{◌-◌}
-use Rattle.dpx_aux.proofs.AsksInTurn.{AskedInVain}
-use Rattle.dpx_aux.proofs.transaction.transact.Given as goal
-
--- the counter starts at 1
-abbrev pub invariant-loop : goal.invariant-loop
-invariant-loop g l = AskedInVain l.request (l.counter - 1) (g.P.AuxPort.state l.fn.port) (g.P.AuxPort.state l.port)

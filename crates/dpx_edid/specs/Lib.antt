@@ -1,0 +1,5 @@
+pub mod Edid
+pub mod Fetch
+pub mod I2c
+pub mod I2cReply
+pub mod Timing
