@@ -4,7 +4,7 @@ use Rattle.dpx_base.specs.declared.link.Link.{Link}
 use Rattle.dpx_base.specs.declared.port_event.PortEvent.{PortEvent}
 use Rattle.dpx_base.specs.declared.port_event.PortEvent.TheVariants.{Plug, Interrupt, Loss, Resume}
 use Rattle.dpx_aux.specs.Conversation.{IsDecided, Suffices}
-use Rattle.dpx_aux.specs.Transaction.{asks_at_most}
+use Rattle.dpx_aux.specs.Asking.{asks_at_most}
 use Rattle.dpx_aux.proofs.Decided.{ends_decided, choice_decided, then_decided}
 use Rattle.dpx_aux.proofs.Suffices.{more_suffice, ends_suffice, choice_suffices, then_suffices}
 use Rattle.dpx_dpcd.proofs.Decided.{writes_decided, status_decided}

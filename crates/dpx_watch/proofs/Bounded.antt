@@ -11,8 +11,8 @@ use Rattle.dpx_base.specs.Port.{asks}
 use Rattle.dpx_base.proofs.Port.{asks-append}
 use Rattle.dpx_aux.specs.declared.request.Request.{Request}
 use Rattle.dpx_aux.specs.Conversation.{Ends, ◌>>=◌, Choice, HistoriesAre}
-use Rattle.dpx_aux.specs.Request.{encode_request}
-use Rattle.dpx_aux.specs.Transaction.{Transaction, asked_with, asks_at_most}
+use Rattle.dpx_aux.specs.Asking.{asked_with, asks_at_most}
+use Rattle.dpx_aux.specs.Transaction.{Transaction}
 use Rattle.dpx_dpcd.specs.Registers.{ReadsStatus, Writes}
 use Rattle.dpx_link.specs.Training.{Training, training_asks, training_entries}
 use Rattle.dpx_link.proofs.Bounded.{training_asked}
@@ -64,18 +64,19 @@ module _ (m : Measure) where
   ends_few : {R : Type 0} (n : ℕ) (value : R) → AtMost n (Ends value)
   ends_few n value given history e = nothing_few n history e.nothing
 
-  asked_few : (request : Request) (answers : List Answer) → m.of (asked_with request answers) ≤ length answers
-  asked_few request [] = omega (arith, m.none)
-  asked_few request (answer ∷ answers) =
-      let entry = Asked (encode_request request) answer in
-      omega (arith, m.joined (entry ∷ []) (asked_with request answers), m.one entry, asked_few request answers)
+  asked_few : (bytes : List ℕ) (answers : List Answer) → m.of (asked_with bytes answers) ≤ length answers
+  asked_few bytes [] = omega (arith, m.none)
+  asked_few bytes (answer ∷ answers) =
+      let entry = Asked bytes answer in
+      omega (arith, m.joined (entry ∷ []) (asked_with bytes answers), m.one entry, asked_few bytes answers)
 
   transaction_few : (request : Request) → AtMost asks_at_most (Transaction request)
+  unfolding Transaction
   transaction_few request given history t =
       omega (
         arith,
         ap m.of t.asked,
-        asked_few request (t.tried ++ t.last ∷ []),
+        asked_few _ (t.tried ++ t.last ∷ []),
         length-append t.tried (t.last ∷ []),
         t.few,
       )

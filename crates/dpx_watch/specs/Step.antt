@@ -6,7 +6,7 @@ use Rattle.dpx_base.specs.declared.port_event.PortEvent.{PortEvent}
 use Rattle.dpx_base.specs.declared.port_event.PortEvent.TheVariants.{Plug, Interrupt, Loss, Resume}
 use Rattle.dpx_aux.specs.declared.transaction.AuxEnd.{AuxEnd}
 use Rattle.dpx_aux.specs.Conversation.{Ends, ◌>>=◌, Choice}
-use Rattle.dpx_aux.specs.Transaction.{asks_at_most}
+use Rattle.dpx_aux.specs.Asking.{asks_at_most}
 use Rattle.dpx_dpcd.specs.RegisterMap.{set_power}
 use Rattle.dpx_dpcd.specs.Registers.{ReadsStatus, Writes}
 use Rattle.dpx_link.specs.declared.train_end.TrainEnd.{TrainEnd}

@@ -2,7 +2,7 @@ ghost use Rattle.std.specs.Prelude.{◌≡◌, ◌+◌, IfOk};
 ghost use Rattle.dpx_base.specs.declared.lanes.Lanes.{Lanes};
 ghost use Rattle.dpx_base.specs.Asks.{CanAsk, AsksAtMost};
 ghost use Rattle.dpx_aux.specs.Conversation.{Converses};
-ghost use Rattle.dpx_aux.specs.Transaction.{asks_at_most};
+ghost use Rattle.dpx_aux.specs.Asking.{asks_at_most};
 ghost use Rattle.dpx_link.specs.Training.{training_asks};
 ghost use Rattle.dpx_watch.specs.declared.state.WatchState.{WatchState};
 ghost use Rattle.dpx_watch.specs.State.{state_after, is_up, last_of, all_lanes_done, IsGoodState, IsGoodOutcome};

@@ -97,6 +97,7 @@ fn plan(alloc: Global, sink: Sink) -> Result<SinkPlan, AllocError> {
 }
 
 /// What a plain reading of the rules expects: whether the link is up, and how many answers of a script were used.
+#[derive(Drop)]
 struct Table {
     sink: Sink,
     is_up: bool,
