@@ -3,9 +3,11 @@ pub mod Digits
 pub mod Jobs
 pub mod Lines
 pub mod Printing
+pub mod Run
 pub mod Send
 pub mod SendLines
 pub mod Sending
+pub mod SendingCommand
 pub mod Status
 pub mod Step
 pub mod Stop

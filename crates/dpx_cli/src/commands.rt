@@ -3,14 +3,17 @@ ghost use Rattle.dpx_base.specs.Faults.{Rose};
 ghost use Rattle.dpx_link.specs.Training.{training_entries};
 ghost use Rattle.dpx_words.specs.Reading.{command_in};
 ghost use Rattle.dpx_cli.specs.declared.stop.Stop.{Stop};
-ghost use Rattle.dpx_cli.specs.Commands.{IsTrain, IsSend};
+ghost use Rattle.dpx_cli.specs.Commands.{IsTrain, IsSend, IsRun};
 ghost use Rattle.dpx_cli.specs.Printing.{StopsAtOnce};
+ghost use Rattle.dpx_cli.specs.Run.{RunDoes};
 ghost use Rattle.dpx_cli.specs.Send.{SendDoes};
 ghost use Rattle.dpx_cli.specs.Status.{IsExitStatus, IsClean, Means};
 ghost use Rattle.dpx_cli.specs.Step.{◌⇒◌};
 ghost use Rattle.dpx_cli.specs.Train.{SaysTrained, TrainDoes};
+ghost use Rattle.dpx_cli.specs.Transfer.{Prints, PrintsFirst};
 
 use crate::printing::print_stop;
+use crate::run::run;
 use crate::send::send;
 use crate::stop::Stop;
 use crate::train::train;
@@ -44,7 +47,9 @@ pub fn replay<S: Source, T: Pipe, P: LoadPort, O: Sink, R: Threads + Sync>(
     // tells its history to the end.
     ensures bounded { (P.state aux.new).asked_in_all ≤ (P.state aux.old).asked_in_all + 3104 }
     ensures trained { IsSomeAnd (command_in words.now) IsTrain → result ≡ 0
-        → SaysTrained (P.state aux.new) (O.seen out.old ⇒ O.seen out.new) }
+        → SaysTrained (P.state aux.new) (Prints (O.seen out.old ⇒ O.seen out.new)) }
+    ensures run_trained { IsSomeAnd (command_in words.now) IsRun → result ≡ 0
+        → SaysTrained (P.state aux.new) (PrintsFirst (O.seen out.old ⇒ O.seen out.new)) }
     ensures told { training_entries ≤ P.surely_told → (aux.new ≡ aux.old) ⊎ IsSome (P.state aux.new).history }
 
     // There is no other status. A fault comes only where its object counted one, and none that was counted is passed
@@ -75,6 +80,10 @@ pub fn replay<S: Source, T: Pipe, P: LoadPort, O: Sink, R: Threads + Sync>(
         (T.state pipe.old ⇒ T.state pipe.new) (O.seen pix.old ⇒ O.seen pix.new)
         ((pipe.new ≡ pipe.old) × (pix.new ≡ pix.old)) (O.seen out.old ⇒ O.seen out.new) result }
     ensures send_keeps { IsSomeAnd (command_in words.now) IsSend → aux.new ≡ aux.old }
+    ensures run { IsSomeAnd (command_in words.now) IsRun → RunDoes (S.seen src.old ⇒ S.seen src.new)
+        (P.state aux.old ⇒ P.state aux.new) (aux.new ≡ aux.old) (T.state pipe.old ⇒ T.state pipe.new)
+        (O.seen pix.old ⇒ O.seen pix.new) ((pipe.new ≡ pipe.old) × (pix.new ≡ pix.old))
+        (O.seen out.old ⇒ O.seen out.new) result }
 {
     replay_gated(rt, alloc, words, src, pipe, aux, pix, out, &NoGate)
 }
@@ -96,7 +105,9 @@ pub fn replay_gated<S: Source, T: Pipe, P: LoadPort, O: Sink, G: Gate, R: Thread
     // tells its history to the end.
     ensures bounded { (P.state aux.new).asked_in_all ≤ (P.state aux.old).asked_in_all + 3104 }
     ensures trained { IsSomeAnd (command_in words.now) IsTrain → result ≡ 0
-        → SaysTrained (P.state aux.new) (O.seen out.old ⇒ O.seen out.new) }
+        → SaysTrained (P.state aux.new) (Prints (O.seen out.old ⇒ O.seen out.new)) }
+    ensures run_trained { IsSomeAnd (command_in words.now) IsRun → result ≡ 0
+        → SaysTrained (P.state aux.new) (PrintsFirst (O.seen out.old ⇒ O.seen out.new)) }
     ensures told { training_entries ≤ P.surely_told → (aux.new ≡ aux.old) ⊎ IsSome (P.state aux.new).history }
 
     // There is no other status. A fault comes only where its object counted one, and none that was counted is passed
@@ -127,11 +138,18 @@ pub fn replay_gated<S: Source, T: Pipe, P: LoadPort, O: Sink, G: Gate, R: Thread
         (T.state pipe.old ⇒ T.state pipe.new) (O.seen pix.old ⇒ O.seen pix.new)
         ((pipe.new ≡ pipe.old) × (pix.new ≡ pix.old)) (O.seen out.old ⇒ O.seen out.new) result }
     ensures send_keeps { IsSomeAnd (command_in words.now) IsSend → aux.new ≡ aux.old }
+    ensures run { IsSomeAnd (command_in words.now) IsRun → RunDoes (S.seen src.old ⇒ S.seen src.new)
+        (P.state aux.old ⇒ P.state aux.new) (aux.new ≡ aux.old) (T.state pipe.old ⇒ T.state pipe.new)
+        (O.seen pix.old ⇒ O.seen pix.new) ((pipe.new ≡ pipe.old) × (pix.new ≡ pix.old))
+        (O.seen out.old ⇒ O.seen out.new) result }
 {
     a_capture_is_one();
     match read_words(alloc, words) {
         Ok(Command::Train { .. }) => train(alloc, src, aux, out),
         Ok(Command::Send { workers, .. }) => { send(rt, alloc, src, pipe, pix, out, workers, gate) }
+        Ok(Command::Run { workers, .. }) => {
+            run(rt, alloc, src, pipe, aux, pix, out, workers, gate)
+        }
         Err(WordsEnd::Usage) => print_stop(alloc, out, &Stop::Usage),
         Err(WordsEnd::Memory) => print_stop(alloc, out, &Stop::NoMemory),
     }

@@ -1,7 +1,7 @@
 //! The commands of dp_replay: their words, their reports, and the top call.
 //!
 //! * `commands`: the top call, which finds the command in the words
-//! * `train`, `send`: the commands of these names
+//! * `train`, `send`, `run`: the commands of these names
 //! * `job`, `training`, `sending`: steps that commands share
 //! * `transfer`: whole reads, whole writes
 //! * `stop`, `printing`: why a command stops, what is printed and with which status it ends
@@ -13,6 +13,7 @@ mod job;
 mod lines;
 mod printing;
 mod report;
+mod run;
 mod send;
 mod send_lines;
 mod sending;

@@ -49,6 +49,13 @@ pub enum Command {
         capture: Name,
         workers: Workers,
     },
+    /// Train as the job says, and then send the frames over the link that was trained.
+    Run {
+        job: Name,
+        pixels: Name,
+        capture: Name,
+        workers: Workers,
+    },
 }
 
 /// Why words are not read.
