@@ -62,9 +62,10 @@ fn model(lanes: u8, defers: u8, channel: Channel) -> SinkPlan {
     caps[0] = 0x12;
     caps[1] = 0x1E;
     caps[2] = lanes;
+    caps[14] = 0x80;
     SinkPlan::Model {
         caps,
-        extended: [0; 16],
+        extended: caps,
         defers,
         channel,
     }
@@ -119,7 +120,7 @@ impl Table {
         self.is_up = false;
         match self.sink {
             Sink::Never => ("not trained", 148),
-            Sink::ThreeLanes => ("caps refused", 1),
+            Sink::ThreeLanes => ("caps refused", 2),
             _ => ("aux ended", 8),
         }
     }
