@@ -3,6 +3,7 @@ pub mod Digits
 pub mod Jobs
 pub mod Lines
 pub mod Printing
+pub mod Reporting
 pub mod Run
 pub mod Send
 pub mod SendLines
@@ -14,3 +15,6 @@ pub mod Stop
 pub mod Train
 pub mod Training
 pub mod Transfer
+pub mod Watch
+pub mod WatchLines
+pub mod Watching

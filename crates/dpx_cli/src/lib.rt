@@ -21,6 +21,9 @@ mod stop;
 mod train;
 mod training;
 mod transfer;
+mod watch;
+mod watch_lines;
+mod watching;
 
 pub use commands::{replay, replay_gated};
 pub use dpx_words::{Command, Name, WordsEnd, read_words};

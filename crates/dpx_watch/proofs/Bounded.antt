@@ -1,5 +1,5 @@
 -- How many asks, and how many entries, a step has at most.
-use Rattle.std.proofs.Common.{◌≡◌, ℕ, ◌+◌, ◌≤◌, Bool, true, false, List, [], ◌∷◌, ◌++◌, length, refl, ap, arith}
+use Rattle.std.proofs.Common.{◌≡◌, ℕ, ◌+◌, ◌*◌, ◌≤◌, Bool, true, false, List, [], ◌∷◌, ◌++◌, length, refl, ap, arith}
 use Rattle.std.proofs.Common.{length-append, Result, Ok, Err, MatchResult}
 use Rattle.dpx_base.specs.declared.aux_port.Answer.{Answer}
 use Rattle.dpx_base.specs.declared.aux_port.Entry.{Entry}
@@ -12,6 +12,7 @@ use Rattle.dpx_base.proofs.Port.{asks-append}
 use Rattle.dpx_aux.specs.declared.request.Request.{Request}
 use Rattle.dpx_aux.specs.Conversation.{Ends, ◌>>=◌, Choice, HistoriesAre}
 use Rattle.dpx_aux.specs.Asking.{asked_with, asks_at_most}
+use Rattle.dpx_aux.specs.Request.{encode_request}
 use Rattle.dpx_aux.specs.Transaction.{Transaction}
 use Rattle.dpx_dpcd.specs.Registers.{ReadsStatus, Writes}
 use Rattle.dpx_link.specs.Training.{Training, training_asks, training_entries}
@@ -19,6 +20,8 @@ use Rattle.dpx_link.proofs.Bounded.{training_asked}
 use Rattle.dpx_link.proofs.Waits.{training_length}
 use Rattle.dpx_watch.specs.declared.state.WatchState.{WatchState}
 use Rattle.dpx_watch.specs.declared.state.WatchState.TheVariants.{Down, Up}
+use Rattle.dpx_watch.specs.Laws.{Taken, Watches, history_of}
+use Rattle.dpx_watch.specs.State.{state_after}
 use Rattle.dpx_watch.specs.Step.{Trains, Checks, Resumes, OnEvent, WatchStep, step_asks, step_entries}
 
 -- A measure of lists of entries that adds up, and counts an entry at most once; of a training it is at most so much.
@@ -76,7 +79,7 @@ module _ (m : Measure) where
       omega (
         arith,
         ap m.of t.asked,
-        asked_few _ (t.tried ++ t.last ∷ []),
+        asked_few (encode_request request) (t.tried ++ t.last ∷ []),
         length-append t.tried (t.last ∷ []),
         t.few,
       )
@@ -153,3 +156,24 @@ pub step_length : (top : Link) (state : WatchState) (event : PortEvent)
     → HistoriesAre (WatchStep top state event) (λ history. length history ≤ step_entries)
 unfolding by_length
 step_length = step_few by_length
+
+-- events one behind the other
+module _ (m : Measure) (most : ℕ) (few : (top : Link) (state : WatchState) (event : PortEvent)
+    → HistoriesAre (WatchStep top state event) (λ history. m.of history ≤ most)) where
+  list_few : (top : Link) (state now : WatchState) (taken : List Taken) → Watches top state taken now
+      → m.of (history_of taken) ≤ length taken * most
+  list_few top state now [] w = omega (arith, m.none)
+  list_few top state now (t ∷ ts) w =
+      let here : m.of t.history ≤ most = few top state t.event t.outcome t.history w.0 in
+      let rest = list_few top (state_after state t.outcome) now ts w.1 in
+      omega (arith, m.joined t.history (history_of ts), here, rest)
+
+pub list_asked : (top : Link) (taken : List Taken) (now : WatchState) → Watches top Down taken now
+    → asks (history_of taken) ≤ length taken * step_asks
+unfolding by_asks
+list_asked top taken now w = list_few by_asks step_asks step_asked top Down now taken w
+
+pub list_length : (top : Link) (taken : List Taken) (now : WatchState) → Watches top Down taken now
+    → length (history_of taken) ≤ length taken * step_entries
+unfolding by_length
+list_length top taken now w = list_few by_length step_entries step_length top Down now taken w

@@ -1,5 +1,5 @@
 //! Laws of the definitions that the supervisor is proved against. Each function's contract is the law.
-ghost use Rattle.std.specs.Prelude.{◌≡◌, ◌≤◌, List, length};
+ghost use Rattle.std.specs.Prelude.{◌≡◌, ◌*◌, ◌≤◌, List, length};
 ghost use Rattle.dpx_base.specs.Port.{asks};
 ghost use Rattle.dpx_aux.specs.Conversation.{AlwaysIs, IsDecided, HistoriesAre, Suffices};
 ghost use Rattle.dpx_watch.specs.declared.state.WatchState.{WatchState};
@@ -32,6 +32,14 @@ pub fn is_bounded(top: Link, state: WatchState, event: PortEvent)
 /// as the last one.
 pub fn is_read_last(top: Link, state: WatchState, event: PortEvent)
     ensures { AlwaysIs (WatchStep top state event) (λ outcome. IsUpByRead (state_after state outcome)) }
+{}
+
+/// So many events ask so many times more at most, and add so many entries more.
+pub fn lists_are_bounded(top: Link)
+    ensures asks { (taken : List Taken) (now : WatchState) → Watches top WatchState.Down taken now
+        → asks (history_of taken) ≤ length taken * step_asks }
+    ensures entries { (taken : List Taken) (now : WatchState) → Watches top WatchState.Down taken now
+        → length (history_of taken) ≤ length taken * step_entries }
 {}
 
 /// Whatever the events and the answers, frames are allowed only where the last status that was read shows every lane

@@ -10,7 +10,9 @@ mod outcome;
 mod state;
 mod watch;
 
-pub use laws::{is_bounded, is_read_last, one_history, only_good_links, some_history};
+pub use laws::{
+    is_bounded, is_read_last, lists_are_bounded, one_history, only_good_links, some_history,
+};
 pub use outcome::{Outcome, Stepped};
 pub use state::WatchState;
 pub use watch::Watch;

@@ -8,7 +8,7 @@ use Rattle.dpx_base.specs.declared.workers.Workers.{Workers}
 use Rattle.dpx_base.specs.declared.workers.Workers.TheVariants.{One, Lanes}
 use Rattle.dpx_words.specs.Dashes.{has_dash}
 use Rattle.dpx_words.specs.declared.command.Command.{Command}
-use Rattle.dpx_words.specs.declared.command.Command.TheVariants.{Train, Send, Run}
+use Rattle.dpx_words.specs.declared.command.Command.TheVariants.{Train, Send, Run, Watch}
 use Rattle.dpx_words.specs.declared.command.WordsEnd.{WordsEnd}
 use Rattle.dpx_words.specs.declared.command.WordsEnd.TheVariants.{Usage, Memory}
 use Rattle.dpx_words.specs.declared.verbs.Sending.{Sending}
@@ -25,10 +25,17 @@ workers_of [] = Some Lanes
 workers_of (word ∷ []) = workers_named word
 workers_of _ = None
 
+-- the one word that there is
+abbrev pub only_of : List (List ℕ) → Option (List ℕ)
+only_of (word ∷ []) = Some word
+only_of _ = None
+
 -- the words behind the first one of each command
 abbrev pub train_of : List (List ℕ) → Option Command
-train_of (job ∷ []) = Some (Train job)
-train_of _ = None
+train_of rest = option_map (λ job. Train job) (only_of rest)
+
+abbrev pub watch_of : List (List ℕ) → Option Command
+watch_of rest = option_map (λ job. Watch job) (only_of rest)
 
 abbrev pub sending_of : List (List ℕ) → Option Sending
 sending_of (job ∷ pixels ∷ capture ∷ rest) =
@@ -48,6 +55,7 @@ command_of (verb ∷ rest) =
     if bytes_eq verb (codes "train") then train_of rest
     else if bytes_eq verb (codes "send") then send_of rest
     else if bytes_eq verb (codes "run") then run_of rest
+    else if bytes_eq verb (codes "watch") then watch_of rest
     else None
 
 -- the command that the words ask for, if they have a reading

@@ -56,6 +56,10 @@ pub enum Command {
         capture: Name,
         workers: Workers,
     },
+    /// Supervise the job's link through its events.
+    Watch {
+        job: Name,
+    },
 }
 
 /// Why words are not read.

@@ -1,5 +1,5 @@
 ghost use Rattle.std.specs.Prelude.{map};
-ghost use Rattle.dpx_words.specs.Reading.{WordsRead, train_of, sending_of, send_of, run_of, command_of};
+ghost use Rattle.dpx_words.specs.Reading.{WordsRead, only_of, train_of, sending_of, send_of, run_of, watch_of, command_of};
 
 use crate::arguments::read_workers;
 use crate::{Command, Name, WordsEnd};
@@ -17,18 +17,33 @@ pub(crate) fn read_command(alloc: Global, words: &[&str]) -> Result<Command, Wor
         "train" => read_train(alloc, rest),
         "send" => read_send(alloc, rest),
         "run" => read_run(alloc, rest),
+        "watch" => read_watch(alloc, rest),
         _ => Err(WordsEnd::Usage),
     }
+}
+
+/// The one word of a command that needs no more than a job.
+fn read_only(alloc: Global, rest: &[&str]) -> Result<Name, WordsEnd>
+    ensures { WordsRead (only_of (map (λ word. word.now) rest.now)) result }
+{
+    if rest.len() != 1 {
+        return Err(WordsEnd::Usage);
+    }
+    Ok(Name::new(alloc, rest[0])?)
 }
 
 fn read_train(alloc: Global, rest: &[&str]) -> Result<Command, WordsEnd>
     ensures { WordsRead (train_of (map (λ word. word.now) rest.now)) result }
 {
-    if rest.len() != 1 {
-        return Err(WordsEnd::Usage);
-    }
-    let job = Name::new(alloc, rest[0])?;
+    let job = read_only(alloc, rest)?;
     Ok(Command::Train { job })
+}
+
+fn read_watch(alloc: Global, rest: &[&str]) -> Result<Command, WordsEnd>
+    ensures { WordsRead (watch_of (map (λ word. word.now) rest.now)) result }
+{
+    let job = read_only(alloc, rest)?;
+    Ok(Command::Watch { job })
 }
 
 /// The words of a command that sends, behind the first one.

@@ -102,7 +102,7 @@ fn plan(alloc: Global, sink: Sink) -> Result<SinkPlan, AllocError> {
 struct Table {
     sink: Sink,
     is_up: bool,
-    used: u32,
+    used: u64,
 }
 
 impl Table {
@@ -121,7 +121,12 @@ impl Table {
         match self.sink {
             Sink::Never => ("not trained", 148),
             Sink::ThreeLanes => ("caps refused", 2),
-            _ => ("aux ended", 8),
+            // Every ninth request is answered: a later training has one of those first.
+            Sink::Deferring if self.used > 0 => ("aux ended", 9),
+            _ => {
+                self.used += 8;
+                ("aux ended", 8)
+            }
         }
     }
 
@@ -230,15 +235,27 @@ const TOP: Link = Link {
 };
 
 #[test]
-fn every_list_of_five_events_over_sinks_that_train(rt: HostRuntime) -> Result<(), Fail> {
-    walks_all(&rt, rt.alloc(), Sink::Perfect, TOP)?;
+fn every_list_of_five_events_over_a_perfect_sink(rt: HostRuntime) -> Result<(), Fail> {
+    walks_all(&rt, rt.alloc(), Sink::Perfect, TOP)
+}
+
+#[test]
+fn every_list_of_five_events_over_a_sink_that_trains_slower(rt: HostRuntime) -> Result<(), Fail> {
     walks_all(&rt, rt.alloc(), Sink::Slower, TOP)
 }
 
 #[test]
-fn every_list_of_five_events_over_sinks_that_never_train(rt: HostRuntime) -> Result<(), Fail> {
-    walks_all(&rt, rt.alloc(), Sink::Never, TOP)?;
-    walks_all(&rt, rt.alloc(), Sink::ThreeLanes, TOP)?;
+fn every_list_of_five_events_over_a_sink_that_never_trains(rt: HostRuntime) -> Result<(), Fail> {
+    walks_all(&rt, rt.alloc(), Sink::Never, TOP)
+}
+
+#[test]
+fn every_list_of_five_events_over_a_sink_of_three_lanes(rt: HostRuntime) -> Result<(), Fail> {
+    walks_all(&rt, rt.alloc(), Sink::ThreeLanes, TOP)
+}
+
+#[test]
+fn every_list_of_five_events_over_a_sink_that_defers(rt: HostRuntime) -> Result<(), Fail> {
     walks_all(&rt, rt.alloc(), Sink::Deferring, TOP)
 }
 
