@@ -149,6 +149,25 @@ module _ {Plan E : Type 0} {top : Link} {events : List PortEvent} {watch watch_n
             ∙ (append_assoc written before_it it ∙ ap (λ more. written ++ more) (sym (lines_on at)))));
       }
 
+-- the last event was taken, and there was no memory for its line
+pub taken_front : {Plan E : Type 0} {top : Link} {events : List PortEvent} {watch watch_now : WatchSeen}
+    {before middle now : PortState Plan} {written text text_now : List ℕ} {event : PortEvent} {number : ℕ}
+    {result : Result ⊤ E} (all left : List PortEvent) (why : E)
+    → (h : HasTaken top events watch before middle written text)
+    → (e : EventTaken number event (watch ⇒ watch_now) (middle ⇒ now) (text ⇒ text_now) result)
+    → all ≡ (events ++ event ∷ []) ++ left
+    → EventsAreTaken top all (before ⇒ now) (written ⇒ text_now) (Err why)
+taken_front {watch_now = watch_now} all left why h e divided = record {
+  taken = h.taken ++ e.taken ∷ [];
+  left = left;
+  now = watch_now.state;
+  all = divided ∙ ap (λ es. es ++ left) (events_on h e);
+  watches = watches_on h e;
+  added = added_on h e;
+  whole = tt;
+  written = tt;
+}
+
 not_none : (left : Option (List ℕ)) (asked : AskedJob)
     → IfSome left (λ bytes. reading need.Watch bytes ≡ Ok asked) → IsSomeAnd left (ReadsAsNone need.Watch) → ⊥
 not_none None asked reads none = none

@@ -6,7 +6,7 @@ use Rattle.dpx_cli.proofs.watching.take_events.Given as goal
 -- the events before this number were taken
 abbrev pub invariant-loop-number : goal.invariant-loop-number
 invariant-loop-number g l = record {
-  taken : HasTaken l.link (take l.number l.events) l.watch (g.P.AuxPort.state l.fn.port)
+  taken : HasTaken l.fn.link (take l.number l.events) l.watch (g.P.AuxPort.state l.fn.port)
       (g.P.AuxPort.state l.port) l.fn.report l.report;
   within : l.number ≤ length l.events;
   end : l.number-end ≡ length l.events;
