@@ -34,6 +34,12 @@ impl CommandFiles {
                 pixels,
                 capture,
                 ..
+            }
+            | Command::Run {
+                job,
+                pixels,
+                capture,
+                ..
             } => CommandFiles {
                 src: FileSource::open(rt, job.as_str()),
                 pipe: FilePipe::new(FileSource::open(rt, pixels.as_str())),

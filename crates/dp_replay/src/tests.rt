@@ -14,6 +14,7 @@ use std::thread::Threads;
 mod faults;
 mod histories;
 mod reports;
+mod running;
 mod send_faults;
 mod sending;
 mod walk;

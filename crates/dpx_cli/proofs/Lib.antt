@@ -3,6 +3,10 @@ pub mod Jobs
 pub mod LineSteps
 pub mod Modelled
 pub mod Printings
+pub mod Reportings
+pub mod Runs
+pub mod SendingCommands
 pub mod Sends
 pub mod Trainings
 pub mod Transfers
+pub mod Watches

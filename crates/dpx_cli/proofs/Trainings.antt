@@ -9,6 +9,7 @@ use Rattle.dpx_base.specs.Port.{PortState}
 use Rattle.dpx_base.specs.Seen.{SourceSeen, SinkSeen}
 use Rattle.dpx_dpcd.specs.declared.plan.SinkPlan.{SinkPlan}
 use Rattle.dpx_files.specs.declared.job.Job.{Job as AskedJob}
+use Rattle.dpx_files.specs.declared.job.Need.{Need}
 use Rattle.dpx_files.specs.declared.job.Need.TheVariants as need
 use Rattle.dpx_files.specs.declared.refusal.JobBad.{JobBad}
 use Rattle.dpx_files.specs.Job.{reading, link_asked, plan_asked}
@@ -22,55 +23,75 @@ use Rattle.dpx_cli.specs.declared.stop.JobRefusal.{JobRefusal}
 use Rattle.dpx_base.specs.Faults.{Rose}
 use Rattle.dpx_cli.specs.Jobs.{HasJob, JobRefused, ReadsAsJob, ReadsAsNone}
 use Rattle.dpx_cli.specs.Step.{Step, ◌⇒◌}
-use Rattle.dpx_cli.specs.Printing.{StepsDo, CommandPrints, StopsBehind, StopsAtOnce, IsReport, BreaksReport}
+use Rattle.dpx_cli.specs.Printing.{StepsDo, StepsPrint, CommandPrints, StopsBehind, StopsAtOnce, IsReport, BreaksReport}
 use Rattle.dpx_cli.specs.Stop.{bad_of, job_line, read_fault_line, memory_line, stop_lines, stop_status}
-use Rattle.dpx_cli.specs.Training.{TrainStep, TrainedWith, JobTrained, trained_link}
-use Rattle.dpx_cli.specs.Train.{TrainCauses, TrainDoes, TrainingEnds, SaysTrained, train_status}
+use Rattle.dpx_cli.specs.Training.{TrainStep, TrainedWith, JobTrained, ReportsTrained, TrainingEnds, TrainingStops, trained_link}
+use Rattle.dpx_cli.specs.Train.{TrainCauses, TrainDoes, SaysTrained, train_status}
 use Rattle.dpx_cli.proofs.Printings.{prints_nothing}
 
-is_some : (end : TrainEnd) (link : Link) → trained_link end ≡ Some link → IsSome (trained_link end)
+-- training stopped a command, with its cause, and what was printed
+pub record TrainingStopped (need : Need) (src : Step SourceSeen) (port : Step (PortState SinkPlan)) (PortKept : Type 0)
+    (out : Step SinkSeen) (stop : Stop) : Type 0 where
+  pub said : List ℕ
+  pub caused : TrainingStops need src port PortKept stop said
+  pub printed : StepsPrint out said (Err stop)
+
+pub is_some : (end : TrainEnd) (link : Link) → trained_link end ≡ Some link → IsSome (trained_link end)
 is_some end link e = subst (λ (trained : Option Link). IsSome trained) (sym e) refl
 
-module _ (src : Step SourceSeen) (port : Step (PortState SinkPlan)) (PortKept : Type 0) (out out_now : SinkSeen)
-    (asked : AskedJob) (has : HasJob need.Train src asked) (plan : SinkPlan) (asks : plan_asked asked ≡ Some plan) where
-  abbrev pub job_trained : {end : TrainEnd} → TrainedWith (link_asked asked) plan port end
-      → JobTrained need.Train src port end
+module _ (need : Need) (src : Step SourceSeen) (port : Step (PortState SinkPlan)) (PortKept : Type 0) (asked : AskedJob)
+    (has : HasJob need src asked) (plan : SinkPlan) (asks : plan_asked asked ≡ Some plan) (out out_now : SinkSeen) where
+  abbrev job_trained : {end : TrainEnd} → TrainedWith (link_asked asked) plan port end → JobTrained need src port end
   job_trained t = record { asked = asked; has = has; plan = plan; asks = asks; trained = t }
 
-  -- the job was read, and its link was trained
-  pub training_done : (link : Link)
-      → TrainStep (link_asked asked) plan port (out ⇒ out_now) (Ok link)
-      → StepsDo (TrainCauses src port PortKept) (out ⇒ out_now) (Ok tt)
-  training_done link s = record {
-    said = train_report s.end;
-    caused = record { end = s.end; trained = job_trained s.trained; link = is_some s.end link s.ends.0; said = refl };
-    printed = s.ends.1;
-  }
-
   -- the job was read, and the step of training stopped the command
-  pub training_stopped : (stop : Stop)
-      → TrainStep (link_asked asked) plan port (out ⇒ out_now) (Err stop)
-      → StepsDo (TrainCauses src port PortKept) (out ⇒ out_now) (Err stop)
-  training_stopped (Untrained why) s = record {
+  pub stops_training : (stop : Stop) → TrainStep (link_asked asked) plan port (out ⇒ out_now) (Err stop)
+      → TrainingStopped need src port PortKept (out ⇒ out_now) stop
+  stops_training (Untrained why) s = record {
     said = [];
     caused = (
-      subst (λ (end : TrainEnd). JobTrained need.Train src port end) (sym s.ends.0) (job_trained s.trained),
+      subst (λ (end : TrainEnd). JobTrained need src port end) (sym s.ends.0) (job_trained s.trained),
       ap trained_link s.ends.0 ∙ s.ends.1,
       refl,
     );
     printed = prints_nothing out out_now s.ends.2;
   }
-  training_stopped OutFault s = record {
+  stops_training OutFault s = record {
     said = train_report s.end;
     caused = record { end = s.end; trained = job_trained s.trained; link = s.ends.0; said = refl };
     printed = s.ends.1;
   }
-  training_stopped NoMemory s = record {
+  stops_training NoMemory s = record {
     said = [];
     caused = (inr (record { end = s.end; trained = job_trained s.trained }), has.calm, refl);
     printed = prints_nothing out out_now s.ends.1;
   }
-  training_stopped _ s = absurd s.ends
+  stops_training _ s = absurd s.ends
+
+  -- the job was read, and its link was trained
+  pub reports_trained : (link : Link) (s : TrainStep (link_asked asked) plan port (out ⇒ out_now) (Ok link))
+      → ReportsTrained need src port (train_report s.end)
+  reports_trained link s =
+      record { end = s.end; trained = job_trained s.trained; link = is_some s.end link s.ends.0; said = refl }
+
+-- the same of the command
+module _ (src : Step SourceSeen) (port : Step (PortState SinkPlan)) (PortKept : Type 0) (out out_now : SinkSeen)
+    (asked : AskedJob) (has : HasJob need.Train src asked) (plan : SinkPlan) (asks : plan_asked asked ≡ Some plan) where
+  pub training_done : (link : Link)
+      → TrainStep (link_asked asked) plan port (out ⇒ out_now) (Ok link)
+      → StepsDo (TrainCauses src port PortKept) (out ⇒ out_now) (Ok tt)
+  training_done link s = record {
+    said = train_report s.end;
+    caused = reports_trained need.Train src port PortKept asked has plan asks out out_now link s;
+    printed = s.ends.1;
+  }
+
+  pub training_stopped : (stop : Stop)
+      → TrainStep (link_asked asked) plan port (out ⇒ out_now) (Err stop)
+      → StepsDo (TrainCauses src port PortKept) (out ⇒ out_now) (Err stop)
+  training_stopped stop s =
+      let t = stops_training need.Train src port PortKept asked has plan asks out out_now stop s in
+      record { said = t.said; caused = t.caused; printed = t.printed }
 
 -- a job is not one that has no reading
 not_both : (left : Option (List ℕ)) (asked : AskedJob)
@@ -90,27 +111,26 @@ told_of : (Holds : List Entry → Type 0) (told : Option (List Entry)) (entries 
 told_of Holds None entries is holds = tt
 told_of Holds (Some told) entries is holds = subst Holds (sym is) holds
 
-says_trained : (src : Step SourceSeen) (port : Step (PortState SinkPlan)) (out : Step SinkSeen) (end : TrainEnd)
-    → JobTrained need.Train src port end → Prints out (train_report end) → train_status end ≡ 0
-    → SaysTrained port.now out
-says_trained src port out (Trained link drive last requests) t printed is = record {
+pub says_trained : (Says : List ℕ → Type 0) (top : Link) (plan : SinkPlan) (port : Step (PortState SinkPlan))
+    (end : TrainEnd) → TrainedWith top plan port end → Says (train_report end) → train_status end ≡ 0
+    → SaysTrained port.now Says
+says_trained Says top plan port (Trained link drive last requests) t said is = record {
   link = link;
   drive = drive;
   last = last;
   requests = requests;
-  done = t.trained.done;
-  read_last =
-      told_of (IsLastReadWith link.lanes drive last) port.now.history t.trained.entries t.trained.history t.trained.read_last;
-  counted = t.trained.told_requests;
-  printed = printed;
+  done = t.done;
+  read_last = told_of (IsLastReadWith link.lanes drive last) port.now.history t.entries t.history t.read_last;
+  counted = t.told_requests;
+  said = said;
 }
-says_trained src port out end t printed is = absurd cc
+says_trained Says top plan port end t said is = absurd cc
 
-trained_status : (end : TrainEnd) → IsSome (trained_link end) → train_status end ≡ 0
+pub trained_status : (end : TrainEnd) → IsSome (trained_link end) → train_status end ≡ 0
 trained_status (Trained link drive last requests) is = refl
 trained_status end is = absurd cc
 
-untrained_status : (end : TrainEnd) → trained_link end ≡ None → train_status end ≡ 4
+pub untrained_status : (end : TrainEnd) → trained_link end ≡ None → train_status end ≡ 4
 untrained_status (Trained link drive last requests) is = absurd cc
 untrained_status end is = refl
 
@@ -127,7 +147,7 @@ module _ (src : Step SourceSeen) (port : Step (PortState SinkPlan)) (PortKept : 
   ended_does : (end : TrainEnd) → JobTrained need.Train src port end → Prints out (train_report end)
       → status ≡ train_status end → (status ≡ 0) ⊎ (status ≡ 4) → TrainDoes src port PortKept out status
   ended_does end t printed is either = record {
-    trained = λ e. says_trained src port out end t printed (sym is ∙ e);
+    trained = λ e. says_trained (Prints out) _ _ port end t.trained printed (sym is ∙ e);
     ended = λ e. record { end = end; trained = t; status_is = is; printed = printed };
     refused = λ e. absurd (omega (arith, e, either));
     refuses = λ none clean. absurd (not_both src.before.left t.asked t.has.reads none);
@@ -142,7 +162,7 @@ module _ (src : Step SourceSeen) (port : Step (PortState SinkPlan)) (PortKept : 
   }
 
   -- a write of the report failed
-  broken_does : BreaksReport (TrainCauses src port PortKept) out → status ≡ 8 → PortKept ⊎ TrainingEnds src port
+  broken_does : BreaksReport (TrainCauses src port PortKept) out → status ≡ 8 → PortKept ⊎ TrainingEnds need.Train src port
       → TrainDoes src port PortKept out status
   broken_does broken is port_is = record {
     trained = λ e. absurd (omega (arith, e, is));
@@ -160,7 +180,7 @@ module _ (src : Step SourceSeen) (port : Step (PortState SinkPlan)) (PortKept : 
   }
 
   -- there was no memory
-  memory_does : Prints out memory_line → status ≡ 10 → PortKept ⊎ TrainingEnds src port
+  memory_does : Prints out memory_line → status ≡ 10 → PortKept ⊎ TrainingEnds need.Train src port
       → TrainDoes src port PortKept out status
   memory_does printed is port_is = record {
     trained = λ e. absurd (omega (arith, e, is));
@@ -215,7 +235,7 @@ module _ (src : Step SourceSeen) (port : Step (PortState SinkPlan)) (PortKept : 
   stopped_does : (said : List ℕ) (stop : Stop) → TrainCauses src port PortKept (Err stop) said
       → ((text : List ℕ) → (text ≡ said ++ stop_lines stop) ⊎ (text ≡ said ++ memory_line)
       → IsReport said (Err stop) text)
-      → said ≡ [] → PortKept ⊎ TrainingEnds src port
+      → said ≡ [] → PortKept ⊎ TrainingEnds need.Train src port
       → (Prints out (stop_lines stop) → status ≡ stop_status stop → TrainDoes src port PortKept out status)
       → StopsBehind out said stop status → TrainDoes src port PortKept out status
   stopped_does said stop caused report nothing port_is whole (inl (inl (printed, is))) =

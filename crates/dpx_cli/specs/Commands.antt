@@ -1,12 +1,20 @@
 -- Which command the words ask for.
 use Rattle.std.specs.Prelude.{⊤}
 use Rattle.dpx_words.specs.declared.command.Command.{Command}
-use Rattle.dpx_words.specs.declared.command.Command.TheVariants.{Train, Send}
+use Rattle.dpx_words.specs.declared.command.Command.TheVariants.{Train, Send, Run, Watch}
 
 abbrev pub IsTrain : Command → Type 0
 IsTrain (Train job) = ⊤
-IsTrain (Send job pixels capture workers) = ⊥
+IsTrain other = ⊥
 
 abbrev pub IsSend : Command → Type 0
-IsSend (Train job) = ⊥
 IsSend (Send job pixels capture workers) = ⊤
+IsSend other = ⊥
+
+abbrev pub IsRun : Command → Type 0
+IsRun (Run job pixels capture workers) = ⊤
+IsRun other = ⊥
+
+abbrev pub IsWatch : Command → Type 0
+IsWatch (Watch job) = ⊤
+IsWatch other = ⊥

@@ -1,8 +1,8 @@
--- The job of a command: this project's own. `src` is its source.
+-- The job of a command: this project's own. `src` is its source, `out` the sink of the report.
 use Rattle.std.specs.Prelude.{◌≡◌, ◌⊎◌, ℕ, ◌+◌, ◌≤◌, List, length, IfSome, IsOk, IsErr, Result, Ok, Err}
 use Rattle.std.specs.Io.KnownBytes.{Consumes, IsAtEnd}
 use Rattle.dpx_base.specs.Faults.{Rose}
-use Rattle.dpx_base.specs.Seen.{SourceSeen}
+use Rattle.dpx_base.specs.Seen.{SourceSeen, SinkSeen}
 use Rattle.dpx_files.specs.declared.job.Job.{Job}
 use Rattle.dpx_files.specs.declared.job.Need.{Need}
 use Rattle.dpx_files.specs.Job.{reading, longest_job, need_of, IsJob}
@@ -11,7 +11,8 @@ use Rattle.dpx_cli.specs.declared.stop.JobRefusal.TheVariants.{TooLong}
 use Rattle.dpx_cli.specs.declared.stop.Stop.{Stop}
 use Rattle.dpx_cli.specs.declared.stop.Stop.TheVariants as stop
 use Rattle.dpx_cli.specs.Step.{Step}
-use Rattle.dpx_cli.specs.Stop.{bad_of}
+use Rattle.dpx_cli.specs.Stop.{bad_of, job_line}
+use Rattle.dpx_cli.specs.Transfer.{Prints}
 
 -- the bytes are those of a job for this need; or they are not
 abbrev pub ReadsAsJob : Need → List ℕ → Type 0
@@ -37,6 +38,12 @@ pub record JobRefused (need : Need) (src : Step SourceSeen) (why : JobRefusal) :
   pub bounded : length front ≤ longest_job + 1
   pub read_whole : (why ≡ TooLong) ⊎ IsAtEnd src.now.left
   pub calm : src.now.faults ≡ src.before.faults
+
+-- that is printed
+pub record SaysJobRefused (need : Need) (src : Step SourceSeen) (out : Step SinkSeen) : Type 0 where
+  pub why : JobRefusal
+  pub refused : JobRefused need src why
+  pub printed : Prints out (job_line why)
 
 -- the job that a source has, or why there is none
 abbrev pub ReadsJob : Need → Step SourceSeen → Result Job Stop → Type 0

@@ -16,7 +16,7 @@ use Rattle.dpx_cli.specs.SendLines.{unfit_line, bad_pixel_line, pixels_ended_lin
 
 abbrev pub usage_line : List ℕ
 usage_line =
-    codes "usage: dp_replay train JOB | send JOB PIXELS CAPTURE [one|lanes] | run JOB PIXELS CAPTURE [one|lanes] | recv CAPTURE PIXELS [one|lanes] | gen SEED [one|lanes]\n"
+    codes "usage: dp_replay train JOB | send JOB PIXELS CAPTURE [one|lanes] | run JOB PIXELS CAPTURE [one|lanes] | recv CAPTURE PIXELS [one|lanes] | gen SEED [one|lanes] | watch JOB\n"
 
 abbrev pub memory_line : List ℕ
 memory_line = codes "memory\n"

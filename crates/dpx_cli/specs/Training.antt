@@ -1,8 +1,10 @@
 -- Training as a step of a command: this project's own. `port` is the AUX port, `src` the source of the job, `out` the
 -- sink of the report.
-use Rattle.std.specs.Prelude.{◌≡◌, ◌+◌, ◌-◌, ◌^◌, ◌≤◌, min, List, Option, Some, None, IfSome, IsSome, Result, Ok, Err}
+use Rattle.std.specs.Prelude.{◌≡◌, ◌+◌, ◌-◌, ◌^◌, ◌≤◌, ◌⊎◌, ℕ, min, List, [], Option, Some, None, IfSome, IsSome}
+use Rattle.std.specs.Prelude.{Result, Ok, Err}
 use Rattle.dpx_base.specs.declared.aux_port.Entry.{Entry}
 use Rattle.dpx_base.specs.declared.link.Link.{Link}
+use Rattle.dpx_base.specs.Faults.{Rose}
 use Rattle.dpx_base.specs.Port.{PortState, asks}
 use Rattle.dpx_base.specs.Seen.{SourceSeen, SinkSeen}
 use Rattle.dpx_dpcd.specs.declared.plan.SinkPlan.{SinkPlan}
@@ -20,7 +22,7 @@ use Rattle.dpx_cli.specs.declared.stop.Stop.TheVariants as stop
 use Rattle.dpx_cli.specs.Lines.{train_report}
 use Rattle.dpx_cli.specs.Step.{Step}
 use Rattle.dpx_cli.specs.Transfer.{Prints, PrintsFront}
-use Rattle.dpx_cli.specs.Jobs.{HasJob}
+use Rattle.dpx_cli.specs.Jobs.{HasJob, JobRefused}
 
 -- A plan was loaded, and this link trained against it, and that ended so. The entries since the load, told or not, are
 -- a training of the link, and all that was asked; where the port tells its plan, that is the one that was loaded, and
@@ -70,3 +72,28 @@ pub record JobTrained (need : Need) (src : Step SourceSeen) (port : Step (PortSt
   pub plan : SinkPlan
   pub asks : plan_asked asked ≡ Some plan
   pub trained : TrainedWith (link_asked asked) plan port end
+
+module _ (need : Need) (src : Step SourceSeen) (port : Step (PortState SinkPlan)) where
+  -- the job was trained, and that ended so, whatever was printed of it
+  pub record TrainingEnds : Type 0 where
+    pub end : TrainEnd
+    pub trained : JobTrained need src port end
+
+  -- training ended as trained, and this is its report
+  pub record ReportsTrained (text : List ℕ) : Type 0 where
+    pub end : TrainEnd
+    pub trained : JobTrained need src port end
+    pub link : IsSome (trained_link end)
+    pub said : text ≡ train_report end
+
+  -- Why the job is not read and its link not trained, or that not printed; with what was printed, and with what became
+  -- of the port. `PortKept` is the fact that it is as it was.
+  abbrev pub TrainingStops : Type 0 → Stop → List ℕ → Type 0
+  TrainingStops PortKept (stop.Job why) said = JobRefused need src why × PortKept × (said ≡ [])
+  TrainingStops PortKept (stop.Untrained end) said =
+      JobTrained need src port end × (trained_link end ≡ None) × (said ≡ [])
+  TrainingStops PortKept stop.ReadFault said = Rose src.before.faults src.now.faults × PortKept × (said ≡ [])
+  TrainingStops PortKept stop.OutFault said = ReportsTrained said
+  TrainingStops PortKept stop.NoMemory said =
+      (PortKept ⊎ TrainingEnds) × (src.now.faults ≡ src.before.faults) × (said ≡ [])
+  TrainingStops PortKept other said = ⊥

@@ -17,6 +17,11 @@ pub record Prints (out : Step SinkSeen) (text : List ℕ) : Type 0 where
   pub taken : Appends out.before.taken out.now.taken text
   pub calm : out.now.faults ≡ out.before.faults
 
+-- the same, with more behind it
+pub record PrintsFirst (out : Step SinkSeen) (text : List ℕ) : Type 0 where
+  pub behind : List ℕ
+  pub printed : Prints out (text ++ behind)
+
 -- a write of this text failed: a front of it was taken, and nothing more
 pub record PrintsFront (out : Step SinkSeen) (text : List ℕ) : Type 0 where
   pub front : List ℕ

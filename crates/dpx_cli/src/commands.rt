@@ -1,19 +1,26 @@
-ghost use Rattle.std.specs.Prelude.{◌≡◌, ◌≢◌, ◌⊎◌, ◌+◌, ◌≤◌, None, IsSome, IsSomeAnd};
+ghost use Rattle.std.specs.Prelude.{◌≡◌, ◌≢◌, ◌⊎◌, ◌+◌, ◌*◌, ◌≤◌, None, IsSome, IsSomeAnd};
 ghost use Rattle.dpx_base.specs.Faults.{Rose};
+ghost use Rattle.dpx_files.specs.Events.{most_events};
 ghost use Rattle.dpx_link.specs.Training.{training_entries};
+ghost use Rattle.dpx_watch.specs.Step.{step_entries};
 ghost use Rattle.dpx_words.specs.Reading.{command_in};
 ghost use Rattle.dpx_cli.specs.declared.stop.Stop.{Stop};
-ghost use Rattle.dpx_cli.specs.Commands.{IsTrain, IsSend};
+ghost use Rattle.dpx_cli.specs.Commands.{IsTrain, IsSend, IsRun, IsWatch};
 ghost use Rattle.dpx_cli.specs.Printing.{StopsAtOnce};
+ghost use Rattle.dpx_cli.specs.Run.{RunDoes};
 ghost use Rattle.dpx_cli.specs.Send.{SendDoes};
 ghost use Rattle.dpx_cli.specs.Status.{IsExitStatus, IsClean, Means};
 ghost use Rattle.dpx_cli.specs.Step.{◌⇒◌};
+ghost use Rattle.dpx_cli.specs.Watch.{WatchDoes};
 ghost use Rattle.dpx_cli.specs.Train.{SaysTrained, TrainDoes};
+ghost use Rattle.dpx_cli.specs.Transfer.{Prints, PrintsFirst};
 
 use crate::printing::print_stop;
+use crate::run::run;
 use crate::send::send;
 use crate::stop::Stop;
 use crate::train::train;
+use crate::watch::watch;
 use dpx_base::{Gate, NoGate, Pipe, Sink, Source};
 use dpx_dpcd::LoadPort;
 use dpx_lane::a_capture_is_one;
@@ -41,11 +48,19 @@ pub fn replay<S: Source, T: Pipe, P: LoadPort, O: Sink, R: Threads + Sync>(
 ) -> u8
     // Whatever is answered: training asks at most 3,104 AUX requests, over all of the call, and trained is said only
     // where the last status shows every lane in use done. A port that surely tells as many entries as a training has
-    // tells its history to the end.
-    ensures bounded { (P.state aux.new).asked_in_all ≤ (P.state aux.old).asked_in_all + 3104 }
+    // tells its history to the end. A supervisor asks at most 3,120 an event, of 64 events at most.
+    ensures bounded { (IsSomeAnd (command_in words.now) IsWatch → ⊥)
+        → (P.state aux.new).asked_in_all ≤ (P.state aux.old).asked_in_all + 3104 }
+    ensures watch_bounded { IsSomeAnd (command_in words.now) IsWatch
+        → (P.state aux.new).asked_in_all ≤ (P.state aux.old).asked_in_all + 64 * 3120 }
     ensures trained { IsSomeAnd (command_in words.now) IsTrain → result ≡ 0
-        → SaysTrained (P.state aux.new) (O.seen out.old ⇒ O.seen out.new) }
-    ensures told { training_entries ≤ P.surely_told → (aux.new ≡ aux.old) ⊎ IsSome (P.state aux.new).history }
+        → SaysTrained (P.state aux.new) (Prints (O.seen out.old ⇒ O.seen out.new)) }
+    ensures run_trained { IsSomeAnd (command_in words.now) IsRun → result ≡ 0
+        → SaysTrained (P.state aux.new) (PrintsFirst (O.seen out.old ⇒ O.seen out.new)) }
+    ensures told { (IsSomeAnd (command_in words.now) IsWatch → ⊥) → training_entries ≤ P.surely_told
+        → (aux.new ≡ aux.old) ⊎ IsSome (P.state aux.new).history }
+    ensures watch_told { IsSomeAnd (command_in words.now) IsWatch → most_events * step_entries ≤ P.surely_told
+        → (aux.new ≡ aux.old) ⊎ IsSome (P.state aux.new).history }
 
     // There is no other status. A fault comes only where its object counted one, and none that was counted is passed
     // over.
@@ -75,6 +90,13 @@ pub fn replay<S: Source, T: Pipe, P: LoadPort, O: Sink, R: Threads + Sync>(
         (T.state pipe.old ⇒ T.state pipe.new) (O.seen pix.old ⇒ O.seen pix.new)
         ((pipe.new ≡ pipe.old) × (pix.new ≡ pix.old)) (O.seen out.old ⇒ O.seen out.new) result }
     ensures send_keeps { IsSomeAnd (command_in words.now) IsSend → aux.new ≡ aux.old }
+    ensures run { IsSomeAnd (command_in words.now) IsRun → RunDoes (S.seen src.old ⇒ S.seen src.new)
+        (P.state aux.old ⇒ P.state aux.new) (aux.new ≡ aux.old) (T.state pipe.old ⇒ T.state pipe.new)
+        (O.seen pix.old ⇒ O.seen pix.new) ((pipe.new ≡ pipe.old) × (pix.new ≡ pix.old))
+        (O.seen out.old ⇒ O.seen out.new) result }
+    ensures watch { IsSomeAnd (command_in words.now) IsWatch → WatchDoes (S.seen src.old ⇒ S.seen src.new)
+        (P.state aux.old ⇒ P.state aux.new) (aux.new ≡ aux.old) (O.seen out.old ⇒ O.seen out.new) result }
+    ensures watch_keeps { IsSomeAnd (command_in words.now) IsWatch → (pipe.new ≡ pipe.old) × (pix.new ≡ pix.old) }
 {
     replay_gated(rt, alloc, words, src, pipe, aux, pix, out, &NoGate)
 }
@@ -93,11 +115,19 @@ pub fn replay_gated<S: Source, T: Pipe, P: LoadPort, O: Sink, G: Gate, R: Thread
 ) -> u8
     // Whatever is answered: training asks at most 3,104 AUX requests, over all of the call, and trained is said only
     // where the last status shows every lane in use done. A port that surely tells as many entries as a training has
-    // tells its history to the end.
-    ensures bounded { (P.state aux.new).asked_in_all ≤ (P.state aux.old).asked_in_all + 3104 }
+    // tells its history to the end. A supervisor asks at most 3,120 an event, of 64 events at most.
+    ensures bounded { (IsSomeAnd (command_in words.now) IsWatch → ⊥)
+        → (P.state aux.new).asked_in_all ≤ (P.state aux.old).asked_in_all + 3104 }
+    ensures watch_bounded { IsSomeAnd (command_in words.now) IsWatch
+        → (P.state aux.new).asked_in_all ≤ (P.state aux.old).asked_in_all + 64 * 3120 }
     ensures trained { IsSomeAnd (command_in words.now) IsTrain → result ≡ 0
-        → SaysTrained (P.state aux.new) (O.seen out.old ⇒ O.seen out.new) }
-    ensures told { training_entries ≤ P.surely_told → (aux.new ≡ aux.old) ⊎ IsSome (P.state aux.new).history }
+        → SaysTrained (P.state aux.new) (Prints (O.seen out.old ⇒ O.seen out.new)) }
+    ensures run_trained { IsSomeAnd (command_in words.now) IsRun → result ≡ 0
+        → SaysTrained (P.state aux.new) (PrintsFirst (O.seen out.old ⇒ O.seen out.new)) }
+    ensures told { (IsSomeAnd (command_in words.now) IsWatch → ⊥) → training_entries ≤ P.surely_told
+        → (aux.new ≡ aux.old) ⊎ IsSome (P.state aux.new).history }
+    ensures watch_told { IsSomeAnd (command_in words.now) IsWatch → most_events * step_entries ≤ P.surely_told
+        → (aux.new ≡ aux.old) ⊎ IsSome (P.state aux.new).history }
 
     // There is no other status. A fault comes only where its object counted one, and none that was counted is passed
     // over.
@@ -127,11 +157,22 @@ pub fn replay_gated<S: Source, T: Pipe, P: LoadPort, O: Sink, G: Gate, R: Thread
         (T.state pipe.old ⇒ T.state pipe.new) (O.seen pix.old ⇒ O.seen pix.new)
         ((pipe.new ≡ pipe.old) × (pix.new ≡ pix.old)) (O.seen out.old ⇒ O.seen out.new) result }
     ensures send_keeps { IsSomeAnd (command_in words.now) IsSend → aux.new ≡ aux.old }
+    ensures run { IsSomeAnd (command_in words.now) IsRun → RunDoes (S.seen src.old ⇒ S.seen src.new)
+        (P.state aux.old ⇒ P.state aux.new) (aux.new ≡ aux.old) (T.state pipe.old ⇒ T.state pipe.new)
+        (O.seen pix.old ⇒ O.seen pix.new) ((pipe.new ≡ pipe.old) × (pix.new ≡ pix.old))
+        (O.seen out.old ⇒ O.seen out.new) result }
+    ensures watch { IsSomeAnd (command_in words.now) IsWatch → WatchDoes (S.seen src.old ⇒ S.seen src.new)
+        (P.state aux.old ⇒ P.state aux.new) (aux.new ≡ aux.old) (O.seen out.old ⇒ O.seen out.new) result }
+    ensures watch_keeps { IsSomeAnd (command_in words.now) IsWatch → (pipe.new ≡ pipe.old) × (pix.new ≡ pix.old) }
 {
     a_capture_is_one();
     match read_words(alloc, words) {
         Ok(Command::Train { .. }) => train(alloc, src, aux, out),
         Ok(Command::Send { workers, .. }) => { send(rt, alloc, src, pipe, pix, out, workers, gate) }
+        Ok(Command::Run { workers, .. }) => {
+            run(rt, alloc, src, pipe, aux, pix, out, workers, gate)
+        }
+        Ok(Command::Watch { .. }) => watch(alloc, src, aux, out),
         Err(WordsEnd::Usage) => print_stop(alloc, out, &Stop::Usage),
         Err(WordsEnd::Memory) => print_stop(alloc, out, &Stop::NoMemory),
     }

@@ -1,7 +1,7 @@
 //! The commands of dp_replay: their words, their reports, and the top call.
 //!
 //! * `commands`: the top call, which finds the command in the words
-//! * `train`, `send`: the commands of these names
+//! * `train`, `send`, `run`: the commands of these names
 //! * `job`, `training`, `sending`: steps that commands share
 //! * `transfer`: whole reads, whole writes
 //! * `stop`, `printing`: why a command stops, what is printed and with which status it ends
@@ -13,6 +13,7 @@ mod job;
 mod lines;
 mod printing;
 mod report;
+mod run;
 mod send;
 mod send_lines;
 mod sending;
@@ -20,6 +21,9 @@ mod stop;
 mod train;
 mod training;
 mod transfer;
+mod watch;
+mod watch_lines;
+mod watching;
 
 pub use commands::{replay, replay_gated};
 pub use dpx_words::{Command, Name, WordsEnd, read_words};

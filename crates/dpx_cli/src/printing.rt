@@ -46,7 +46,7 @@ pub(crate) fn print_sent<O: Sink>(alloc: Global, out: &mut O, plan: &Plan) -> Re
 }
 
 /// Prints what a step of a command reports. Where that fails, nothing more is to be written.
-fn print<O: Sink>(out: &mut O, report: &Report) -> Result<(), Stop>
+pub(crate) fn print<O: Sink>(out: &mut O, report: &Report) -> Result<(), Stop>
     ensures { StepPrints (O.seen out.old ⇒ O.seen out.new) report.now result }
 {
     match write_text(out, report.as_bytes()) {

@@ -41,7 +41,7 @@ pub(crate) enum Stop {
 }
 
 const USAGE: &str =
-    "usage: dp_replay train JOB | send JOB PIXELS CAPTURE [one|lanes] | run JOB PIXELS CAPTURE [one|lanes] | recv CAPTURE PIXELS [one|lanes] | gen SEED [one|lanes]\n";
+    "usage: dp_replay train JOB | send JOB PIXELS CAPTURE [one|lanes] | run JOB PIXELS CAPTURE [one|lanes] | recv CAPTURE PIXELS [one|lanes] | gen SEED [one|lanes] | watch JOB\n";
 
 pub(crate) const MEMORY: &str = "memory\n";
 

@@ -1,4 +1,4 @@
-pub mod Answers
+pub mod ItemsRead
 pub mod Depths
 pub mod Fitting
 pub mod Generated

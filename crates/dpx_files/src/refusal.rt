@@ -34,6 +34,8 @@ pub enum Field {
     Extended,
     Defers,
     Channel,
+    Events,
+    Entries,
 }
 
 impl Field {
@@ -69,6 +71,8 @@ impl Field {
             Field::Extended => "extended",
             Field::Defers => "defers",
             Field::Channel => "channel",
+            Field::Events => "events",
+            Field::Entries => "entries",
         }
     }
 }

@@ -11,6 +11,7 @@ use Rattle.dpx_aux.specs.declared.request.Request.{Request}
 use Rattle.dpx_aux.specs.declared.transaction.AuxEnd.{AuxEnd}
 use Rattle.dpx_aux.specs.Conversation.{Ends, Waits, ◌>>=◌, Choice, HistoriesAre}
 use Rattle.dpx_aux.specs.Asking.{asked_with}
+use Rattle.dpx_aux.specs.Request.{encode_request}
 use Rattle.dpx_aux.specs.Transaction.{Transaction}
 use Rattle.dpx_dpcd.specs.declared.caps.Caps.{Caps}
 use Rattle.dpx_dpcd.specs.declared.caps.CapsBad.{CapsBad}
@@ -58,7 +59,7 @@ asked_waits bytes (x ∷ xs) = asked_waits bytes xs
 transaction_waits : (request : Request) → WaitsAtMost 0 (Transaction request)
 unfolding Transaction
 transaction_waits request given history t =
-    omega (arith, ap waits t.asked, asked_waits _ (t.tried ++ t.last ∷ []))
+    omega (arith, ap waits t.asked, asked_waits (encode_request request) (t.tried ++ t.last ∷ []))
 
 next_waits : {A B E : Type 0} (n : ℕ) (next : A → Result B E → List Entry → Type 0)
     → ((value : A) → WaitsAtMost n (next value)) → (middle : Result A E) (given : Result B E) (back : List Entry)

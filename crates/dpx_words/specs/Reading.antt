@@ -8,9 +8,10 @@ use Rattle.dpx_base.specs.declared.workers.Workers.{Workers}
 use Rattle.dpx_base.specs.declared.workers.Workers.TheVariants.{One, Lanes}
 use Rattle.dpx_words.specs.Dashes.{has_dash}
 use Rattle.dpx_words.specs.declared.command.Command.{Command}
-use Rattle.dpx_words.specs.declared.command.Command.TheVariants.{Train, Send}
+use Rattle.dpx_words.specs.declared.command.Command.TheVariants.{Train, Send, Run, Watch}
 use Rattle.dpx_words.specs.declared.command.WordsEnd.{WordsEnd}
 use Rattle.dpx_words.specs.declared.command.WordsEnd.TheVariants.{Usage, Memory}
+use Rattle.dpx_words.specs.declared.verbs.Sending.{Sending}
 
 abbrev pub workers_named : List ℕ → Option Workers
 workers_named word =
@@ -24,14 +25,28 @@ workers_of [] = Some Lanes
 workers_of (word ∷ []) = workers_named word
 workers_of _ = None
 
+-- the one word that there is
+abbrev pub only_of : List (List ℕ) → Option (List ℕ)
+only_of (word ∷ []) = Some word
+only_of _ = None
+
 -- the words behind the first one of each command
 abbrev pub train_of : List (List ℕ) → Option Command
-train_of (job ∷ []) = Some (Train job)
-train_of _ = None
+train_of rest = option_map (λ job. Train job) (only_of rest)
+
+abbrev pub watch_of : List (List ℕ) → Option Command
+watch_of rest = option_map (λ job. Watch job) (only_of rest)
+
+abbrev pub sending_of : List (List ℕ) → Option Sending
+sending_of (job ∷ pixels ∷ capture ∷ rest) =
+    option_map (λ workers. record { job = job; pixels = pixels; capture = capture; workers = workers }) (workers_of rest)
+sending_of _ = None
 
 abbrev pub send_of : List (List ℕ) → Option Command
-send_of (job ∷ pixels ∷ capture ∷ rest) = option_map (λ workers. Send job pixels capture workers) (workers_of rest)
-send_of _ = None
+send_of rest = option_map (λ words. Send words.job words.pixels words.capture words.workers) (sending_of rest)
+
+abbrev pub run_of : List (List ℕ) → Option Command
+run_of rest = option_map (λ words. Run words.job words.pixels words.capture words.workers) (sending_of rest)
 
 -- the command of words of which none begins with a dash
 abbrev pub command_of : List (List ℕ) → Option Command
@@ -39,6 +54,8 @@ command_of [] = None
 command_of (verb ∷ rest) =
     if bytes_eq verb (codes "train") then train_of rest
     else if bytes_eq verb (codes "send") then send_of rest
+    else if bytes_eq verb (codes "run") then run_of rest
+    else if bytes_eq verb (codes "watch") then watch_of rest
     else None
 
 -- the command that the words ask for, if they have a reading
@@ -46,10 +63,10 @@ unfoldable pub command_in : List (String Global) → Option Command
 command_in words = if list_any has_dash (map string_bytes words) then None else command_of (map string_bytes words)
 
 -- words are refused where they have no reading, or where there is no memory
-abbrev pub WordsRefused : Option Command → WordsEnd → Type 0
+abbrev pub WordsRefused : {T : Type 0} → Option T → WordsEnd → Type 0
 WordsRefused read Usage = read ≡ None
 WordsRefused read Memory = ⊤
 
 -- the words are read as they are, unless there is no memory for it
-abbrev pub WordsRead : Option Command → Result Command WordsEnd → Type 0
+abbrev pub WordsRead : {T : Type 0} → Option T → Result T WordsEnd → Type 0
 WordsRead read result = MatchResult result (λ command. read ≡ Some command) (λ end. WordsRefused read end)

@@ -49,6 +49,17 @@ pub enum Command {
         capture: Name,
         workers: Workers,
     },
+    /// Train as the job says, and then send the frames over the link that was trained.
+    Run {
+        job: Name,
+        pixels: Name,
+        capture: Name,
+        workers: Workers,
+    },
+    /// Supervise the job's link through its events.
+    Watch {
+        job: Name,
+    },
 }
 
 /// Why words are not read.

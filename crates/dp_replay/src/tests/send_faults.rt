@@ -1,10 +1,9 @@
 //! The command `send` over objects in memory: pixels and calls that fail, and the two lanes' threads.
 
-use super::sending::{CALM, Fails, PIXELS, Stage, TWO_FRAMES, TWO_LANES, ends, job, pixels, send};
+use super::sending::{CALM, Fails, PIXELS, Stage, TWO_FRAMES, TWO_LANES, ends, job, pixels, status};
 use super::words;
 use dpx_base::{Gate, Pixel};
 use dpx_cli::replay_gated;
-use dpx_sinkmodel::PlanPort;
 use std::alloc::Global;
 use std::process::Abort;
 use std::sync::atomic::{AtomicU64, Ordering};
@@ -118,7 +117,7 @@ fn capture_fails<R: Threads + Sync>(
         ..CALM
     };
     let mut stage = Stage::new(alloc, job.as_str(), pixels(alloc, PIXELS)?, fails)?;
-    let status = send(rt, alloc, "send a b c", &mut stage)?;
+    let status = status(rt, alloc, "send a b c", &mut stage)?;
     Ok((status, stage.pix.bytes().len()))
 }
 
@@ -178,14 +177,13 @@ fn sent_past<R: Threads + Sync>(rt: &R, alloc: Global, gate: &impl Gate) -> Resu
     let job = job(alloc, TWO_LANES, TWO_FRAMES, 8)?;
     let mut stage = Stage::new(alloc, job.as_str(), pixels(alloc, PIXELS)?, CALM)?;
     let words = words(alloc, "send a b c lanes")?;
-    let mut port = PlanPort::new(alloc)?;
     let status = replay_gated(
         rt,
         alloc,
         words.as_slice(),
         &mut stage.src,
         &mut stage.pipe,
-        &mut port,
+        &mut stage.port,
         &mut stage.pix,
         &mut stage.out,
         gate,

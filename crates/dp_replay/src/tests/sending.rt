@@ -1,4 +1,5 @@
-//! The command `send` over objects in memory: what is sent, and what is refused before that.
+//! The command `send` over objects in memory: what is sent, and what is refused before that. Here are the objects of the
+//! commands that send.
 
 use super::words;
 use dpx_base::{MemPipe, MemSink, MemSource, Pixel};
@@ -71,6 +72,7 @@ pub(crate) const CALM: Fails<'static> = Fails {
 pub(crate) struct Stage {
     pub(crate) src: MemSource,
     pub(crate) pipe: MemPipe,
+    pub(crate) port: PlanPort,
     pub(crate) pix: MemSink,
     pub(crate) out: MemSink,
 }
@@ -85,7 +87,8 @@ impl Stage {
         Ok(Stage {
             src: MemSource::new(job.as_bytes().to_vec(alloc)?, 64, fails.job.to_vec(alloc)?),
             pipe: MemPipe::new(pixels, fails.clocks.to_vec(alloc)?),
-            pix: MemSink::new(alloc, 4096, fails.capture.to_vec(alloc)?)?,
+            port: PlanPort::new(alloc)?,
+            pix: MemSink::new(alloc, 32_768, fails.capture.to_vec(alloc)?)?,
             out: MemSink::new(alloc, 1024, fails.report.to_vec(alloc)?)?,
         })
     }
@@ -97,21 +100,20 @@ impl Stage {
 }
 
 /// Runs the command, and gives its status.
-pub(crate) fn send<R: Threads + Sync>(
+pub(crate) fn status<R: Threads + Sync>(
     rt: &R,
     alloc: Global,
     command: &str,
     stage: &mut Stage,
 ) -> Result<u8, Fail> {
     let words = words(alloc, command)?;
-    let mut port = PlanPort::new(alloc)?;
     let status = replay(
         rt,
         alloc,
         words.as_slice(),
         &mut stage.src,
         &mut stage.pipe,
-        &mut port,
+        &mut stage.port,
         &mut stage.pix,
         &mut stage.out,
     );
@@ -126,7 +128,7 @@ pub(crate) fn ends<R: Abort + Threads + Sync>(
     stage: &mut Stage,
     wanted: (&str, u8),
 ) -> Result<(), Fail> {
-    let status = send(rt, alloc, command, stage)?;
+    let status = status(rt, alloc, command, stage)?;
     let printed = str::from_utf8(stage.out.bytes())?;
     assert_eq!(rt; (printed, status), wanted, "{command}");
     Ok(())
@@ -195,7 +197,7 @@ fn begins<R: Abort + Threads + Sync>(
 ) -> Result<(), Fail> {
     let job = job(alloc, link, TWO_FRAMES, 8)?;
     let mut stage = Stage::new(alloc, job.as_str(), pixels(alloc, PIXELS)?, CALM)?;
-    let status = send(rt, alloc, "send a b c", &mut stage)?;
+    let status = status(rt, alloc, "send a b c", &mut stage)?;
     assert_eq!(rt; (status, stage.pix.bytes().starts_with(wanted)), (0, true));
     Ok(())
 }

@@ -1,0 +1,4 @@
+pub mod Answered
+pub mod Bounded
+pub mod Good
+pub mod LastStatus
