@@ -18,6 +18,7 @@ mod running;
 mod send_faults;
 mod sending;
 mod walk;
+mod watching;
 
 /// A job with a modelled sink that has HBR3 in its extended field, four lanes and TPS4. Behind its
 /// capabilities stand more members of the model, or none.
