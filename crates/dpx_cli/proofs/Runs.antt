@@ -1,7 +1,7 @@
 -- The command `run`, from its steps to its contract.
-use Rattle.std.proofs.Common.{◌≡◌, ◌⊎◌, ℕ, List, [], ◌++◌, refl, sym, ap, ◌∙◌, subst, arith, inl, inr}
-use Rattle.std.proofs.Common.{Result, Ok, Err, Option, Some, None}
-use Rattle.std.specs.Prelude.{⊤, IfSome, IsSome}
+use Rattle.std.proofs.Common.{◌≡◌, ◌⊎◌, ℕ, List, [], ◌++◌, refl, sym, ap, subst, arith, inl, inr}
+use Rattle.std.proofs.Common.{Result, Ok, Err, Some, None}
+use Rattle.std.specs.Prelude.{⊤, IfSome}
 use Rattle.dpx_base.specs.declared.link.Link.{Link}
 use Rattle.dpx_base.specs.Pipe.{PipeState}
 use Rattle.dpx_base.specs.Port.{PortState}
@@ -24,7 +24,7 @@ use Rattle.dpx_cli.specs.Status.{IsClean}
 use Rattle.dpx_cli.specs.Step.{Step, ◌⇒◌}
 use Rattle.dpx_cli.specs.Stop.{bad_of}
 use Rattle.dpx_cli.specs.Train.{SaysEnd, SaysTrained}
-use Rattle.dpx_cli.specs.Training.{JobTrained, TrainStep, TrainedWith, TrainingEnds, TrainingStops, trained_link}
+use Rattle.dpx_cli.specs.Training.{JobTrained, TrainStep, TrainingEnds, TrainingStops, trained_link}
 use Rattle.dpx_cli.specs.Transfer.{Prints, PrintsFirst}
 use Rattle.dpx_cli.proofs.Captures.{CaptureIsOne}
 use Rattle.dpx_cli.proofs.Printings.{breaks_behind, end_status, end_text, ended_status, ended_whole, ended_with, prints_more}

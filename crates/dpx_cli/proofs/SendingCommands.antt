@@ -1,7 +1,7 @@
 -- A command that sends, from the end of its steps to what it does by its status.
 use Rattle.std.proofs.Common.{◌≡◌, ◌⊎◌, ℕ, List, [], ◌++◌, refl, sym, ap, ◌∙◌, subst, inl, inr, append_assoc}
-use Rattle.std.proofs.Common.{Result, Ok, Err, Option, Some, None}
-use Rattle.std.specs.Prelude.{⊤, IfSome}
+use Rattle.std.proofs.Common.{Result, Ok, Err, Some}
+use Rattle.std.specs.Prelude.{⊤}
 use Rattle.std.proofs.lemmas.List.{append-nil}
 use Rattle.dpx_base.specs.declared.link.Link.{Link}
 use Rattle.dpx_base.specs.declared.pixel.Pixel.{Pixel}
@@ -19,7 +19,7 @@ use Rattle.dpx_cli.specs.declared.stop.Stop.{Stop}
 use Rattle.dpx_cli.specs.declared.stop.Stop.TheVariants as stop
 use Rattle.dpx_cli.specs.Jobs.{JobRefused}
 use Rattle.dpx_cli.specs.Printing.{CommandPrints}
-use Rattle.dpx_cli.specs.SendLines.{plan_line, bad_pixel_line, pixels_ended_line, unfit_line}
+use Rattle.dpx_cli.specs.SendLines.{plan_line, sent_line, bad_pixel_line, pixels_ended_line, unfit_line}
 use Rattle.dpx_cli.specs.Sending.{shaped, PixelsStop, PlanSent, SentSome, SentAll}
 use Rattle.dpx_cli.specs.SendingCommand.{AskedSent, HasPlan, SaysBadPixel, SaysPixelsEnded, SaysSent, SaysUnfit, SendingCauses}
 use Rattle.dpx_cli.specs.SendingCommand.{Sends, SendsSome, StatusOfFit, StatusOfShape}
@@ -53,12 +53,12 @@ pub record IsSendingCommand (need : Need) (src : Step SourceSeen) (Untouched : T
       → src.now.faults ≡ src.before.faults
 
 -- lines behind what was printed of the sending
-behind_said : {said before behind plan : List ℕ} (line : List ℕ) → said ≡ before ++ behind → behind ≡ plan
-    → said ++ line ≡ before ++ (plan ++ line)
-behind_said {before = before} {plan = plan} line e f = rw (e, f) (append_assoc before plan line)
+behind_said : (said before behind plan line : List ℕ) → said ≡ before ++ behind → behind ≡ plan
+    → said ++ line ≡ (before ++ plan) ++ line
+behind_said said before behind plan line e f = ap (λ xs. xs ++ line) (e ∙ ap (λ xs. before ++ xs) f)
 
-said_alone : {said before behind : List ℕ} → said ≡ before ++ behind → behind ≡ [] → said ≡ before
-said_alone {before = before} e f = e ∙ (ap (λ xs. before ++ xs) f ∙ append-nil before)
+said_alone : (said before behind : List ℕ) → said ≡ before ++ behind → behind ≡ [] → said ≡ before
+said_alone said before behind e f = e ∙ (ap (λ xs. before ++ xs) f ∙ append-nil before)
 
 module _ (Asks : Shape → Link → List ℕ → Type 0) (pipe : Step PipeState) (pix : Step SinkSeen) (Kept : Type 0) where
   -- the plan that was sent
@@ -76,7 +76,9 @@ module _ (Asks : Shape → Link → List ℕ → Type 0) (pipe : Step PipeState)
       record { behind = c.behind; printed = subst (λ (text : List ℕ). Prints out text) c.said_is printed }
   printed_first out (Err stop) said c printed = record {
     behind = c.behind ++ stop_lines stop;
-    printed = subst (λ (text : List ℕ). Prints out text) (behind_said (stop_lines stop) c.said_is refl) printed;
+    printed =
+        subst (λ (text : List ℕ). Prints out text)
+        (ap (λ xs. xs ++ stop_lines stop) c.said_is ∙ append_assoc c.before c.behind (stop_lines stop)) printed;
   }
 
   -- whatever the end of a plan that fits, nothing was handed out, or it was sent in part
@@ -156,7 +158,11 @@ module _ (need : Need) (src : Step SourceSeen) (Untouched : Type 0) (Asks : Shap
       plan = plan_of Asks pipe pix Kept c;
       fit = has_plan Asks pipe pix Kept c c.sent.fits;
       all = c.sent.sent.1;
-      printed = subst IsPrinted (c.said_is ∙ ap (λ xs. c.before ++ xs) c.sent.sent.0) printed;
+      printed =
+          subst IsPrinted
+          (c.said_is ∙ (ap (λ xs. c.before ++ xs) c.sent.sent.0
+          ∙ sym (append_assoc c.before (plan_line (plan_of Asks pipe pix Kept c)) (sent_line (plan_of Asks pipe pix Kept c)))))
+          printed;
     }
     sent_at (Err stop.Usage) said c e printed = absurd cc
     sent_at (Err _) said c e printed = absurd cc
@@ -185,7 +191,9 @@ module _ (need : Need) (src : Step SourceSeen) (Untouched : Type 0) (Asks : Shap
             fit = has_plan Asks pipe pix Kept c c.sent.fits;
             some = c.sent.sent.1;
             cause = c.sent.sent.4;
-            printed = subst IsPrinted (behind_said (bad_pixel_line number value) c.said_is c.sent.sent.0) printed;
+            printed =
+                subst IsPrinted
+                (behind_said said c.before c.behind _ (bad_pixel_line number value) c.said_is c.sent.sent.0) printed;
           };
         }))
     refused_at (Err (stop.PixelsEnded number)) said (inl (unsent, kept)) e printed =
@@ -199,7 +207,9 @@ module _ (need : Need) (src : Step SourceSeen) (Untouched : Type 0) (Asks : Shap
             fit = has_plan Asks pipe pix Kept c c.sent.fits;
             some = c.sent.sent.1;
             cause = c.sent.sent.4;
-            printed = subst IsPrinted (behind_said (pixels_ended_line number) c.said_is c.sent.sent.0) printed;
+            printed =
+                subst IsPrinted
+                (behind_said said c.before c.behind _ (pixels_ended_line number) c.said_is c.sent.sent.0) printed;
           };
         }))
     refused_at _ said c e printed = absurd cc
@@ -213,7 +223,9 @@ module _ (need : Need) (src : Step SourceSeen) (Untouched : Type 0) (Asks : Shap
         said = c.before;
         why = why;
         unfit = record { shape = c.shape; link = c.link; asked = c.asked; unfit = c.sent.0 };
-        printed = subst (λ (before : List ℕ). IsPrinted (before ++ unfit_line why)) (said_alone c.said_is c.sent.2) printed;
+        printed =
+            subst (λ (before : List ℕ). IsPrinted (before ++ unfit_line why))
+            (said_alone said c.before c.behind c.said_is c.sent.2) printed;
       },
       c.sent.1,
     )

@@ -1,7 +1,7 @@
 -- The command `send`: this project's own. `src` is the source of the job, `pipe` the display engine, `pix` the sink of
 -- the capture, `out` the sink of the report; `Kept` is the fact that the pipe and the sink of the capture are as they
 -- were.
-use Rattle.std.specs.Prelude.{◌≡◌, ◌⊎◌, ℕ, List, [], Option, Some, IfSome, Result, Ok, Err}
+use Rattle.std.specs.Prelude.{◌≡◌, ◌⊎◌, ℕ, List, [], Option, Some, IfSome, Result, Ok, Err, ⊤}
 use Rattle.dpx_base.specs.declared.link.Link.{Link}
 use Rattle.dpx_base.specs.declared.pixel.Pixel.{Pixel}
 use Rattle.dpx_base.specs.Pipe.{PipeState}

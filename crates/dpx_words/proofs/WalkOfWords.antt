@@ -1,12 +1,12 @@
 -- What clap makes of words that begin with no dash.
-use Rattle.std.proofs.Common.{zero, suc, ◌≡◌, ◌∙◌, ◌++◌, ◌≤◌, ◌<◌, ◌&&◌, ◌||◌, ap, ℕ, Bool, true, false, not, List, [], ◌∷◌, length, map, Option, Some, None, refl, sym, codes, unwrap_or, arith, append_assoc}
-use Rattle.std.specs.Prelude.{fold, nat_le, option_map, is_some}
-use Rattle.std.specs.List.{AllByRecursion, list_all, list_any}
+use Rattle.std.proofs.Common.{suc, ◌≡◌, ◌∙◌, ◌++◌, ◌≤◌, ◌&&◌, ◌||◌, ap, Bool, true, false, List, [], ◌∷◌, length, Some, None, refl, sym, codes, unwrap_or, arith, append_assoc}
+use Rattle.std.specs.Prelude.{fold, is_some}
+use Rattle.std.specs.List.{list_all, list_any}
 use Rattle.clap.specs.Lexer.{usize_max, long_of, short_of}
 use Rattle.std.specs.Str.{bytes_eq}
-use Rattle.clap.specs.Simple.{App, entered, new_app, new_rule, on_top, with_rule, built, is_simple, matches_of, names_of}
-use Rattle.clap.specs.Takes.{takes, turn_passes, entered_passes, settle_passes, default_passes, is_valid, walk_passes, level_passes, built_takes}
-use Rattle.clap.specs.Walk.{Held, Rule, Row, Text, Walk, all_of, idle, positional, nothing_held, walk, walk_from, walked, finished, rows_after}
+use Rattle.clap.specs.Simple.{App, entered, new_app, new_rule, on_top, with_rule, built, is_simple, matches_of}
+use Rattle.clap.specs.Takes.{takes, turn_passes, entered_passes, settle_passes, default_passes, is_valid, walk_passes}
+use Rattle.clap.specs.Walk.{Rule, Text, Walk, all_of, positional, nothing_held, walk, walk_from, walked, finished}
 use Rattle.clap.specs.declared.builder.action.ArgAction.TheVariants.{Append}
 use Rattle.clap.specs.declared.builder.range.ValueRange.{ValueRange}
 use Rattle.std.proofs.lemmas.Bool.{le-leb}

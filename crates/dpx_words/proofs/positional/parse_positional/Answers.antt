@@ -1,11 +1,11 @@
-use Rattle.std.proofs.Common.{rules, ◌≡◌, ◌∙◌, ap, ap₂, map, List, ℕ, codes, string_bytes, unwrap_or, [], ◌≤◌, length, true, arith, Option, Some, None}
+use Rattle.std.proofs.Common.{rules, ◌≡◌, ◌∙◌, ap, ap₂, map, List, codes, string_bytes, unwrap_or, [], ◌≤◌, length, true, arith, Option, Some, None}
 use Rattle.std.proofs.lemmas.List.{length-map}
 use Rattle.std.specs.Option.{IsSomeAnd}
 use Rattle.clap.specs.declared.builder.range.ValueRange.{ValueRange}
 use Rattle.clap.specs.declared.builder.action.ArgAction.TheVariants.{Append}
 use Rattle.std.proofs.lemmas.Result.{IfErr-weaker, IfOk-weaker}
 use Rattle.clap.specs.Lexer.{usize_max}
-use Rattle.clap.specs.Words.{App, Rule, Row, Text, app_of, is_simple, takes, rule_of, all_of, matches_of}
+use Rattle.clap.specs.Words.{Rule, Text, app_of, is_simple, takes, rule_of, all_of, matches_of}
 use Rattle.clap.specs.Simple.{app_of_fields, new_app, on_top, with_rule}
 use Rattle.dpx_words.proofs.WalkOfWords.{range, app, rule, simple, matches_are, takes_all}
 use Rattle.dpx_words.proofs.positional.parse_positional.Goals as goal
