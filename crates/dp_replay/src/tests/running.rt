@@ -27,8 +27,10 @@ fn job(
 ) -> Result<String, Fail> {
     let caps =
         r#""caps":"1214C481000000000000000000008000","extended":"141EC481000000000000000000008000""#;
+    let link = format!(in alloc; "\"rate\":\"{rate}\",\"lanes\":{lanes}")?;
+    let model = format!(in alloc; "{{{caps},\"channel\":{{{channel}}}}}")?;
     let text = format!(in alloc;
-        "{{\"link\":{{\"rate\":\"{rate}\",\"lanes\":{lanes}}},\"mode\":{{{mode},\"depth\":8}},\"sink\":{{\"model\":{{{caps},\"channel\":{{{channel}}}}}}}}}"
+        "{{\"link\":{{{link}}},\"mode\":{{{mode},\"depth\":8}},\"sink\":{{\"model\":{model}}}}}"
     )?;
     Ok(text)
 }
