@@ -85,7 +85,7 @@ impl Stage {
         Ok(Stage {
             src: MemSource::new(job.as_bytes().to_vec(alloc)?, 64, fails.job.to_vec(alloc)?),
             pipe: MemPipe::new(pixels, fails.clocks.to_vec(alloc)?),
-            pix: MemSink::new(alloc, 4096, fails.capture.to_vec(alloc)?)?,
+            pix: MemSink::new(alloc, 32_768, fails.capture.to_vec(alloc)?)?,
             out: MemSink::new(alloc, 1024, fails.report.to_vec(alloc)?)?,
         })
     }
