@@ -27,5 +27,6 @@ pub mod Slots
 pub mod Symbols
 pub mod Timing
 pub mod TimingLaws
+pub mod Transfer
 pub mod Unpacking
 pub mod Words

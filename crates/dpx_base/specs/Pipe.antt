@@ -1,5 +1,5 @@
 -- What a pipe tells of itself: this project's own.
-use Rattle.std.specs.Prelude.{◌≡◌, ℕ, ◌+◌, ◌≤◌, Bool, false, nat_lt, if◌then◌else◌}
+use Rattle.std.specs.Prelude.{◌≡◌, ℕ, ◌+◌, ◌≤◌, Bool, nat_lt, if◌then◌else◌}
 use Rattle.std.specs.Prelude.{List, [], ◌∷◌, ◌++◌, length, take, drop, Option, Some, option_map, Result, Ok, Err}
 use Rattle.dpx_base.specs.declared.pixel.Pixel.{Pixel}
 use Rattle.dpx_base.specs.declared.pipe.PipeEnd.{PipeEnd}
@@ -18,12 +18,6 @@ pub record PipeState : Type 0 where
   pub faults : ℕ
   pub pixels : Option (List Pixel)
   pub sets : Option (List (List Sym))
-
--- a pipe that goes on: it was begun, no call since was refused, and clocks are left
-pub record IsRunning (shown : Shown) (clocks : ℕ) (p : PipeState) : Type 0 where
-  pub begun : p.begun ≡ Some shown
-  pub clocks_told : p.clocks ≡ clocks
-  pub kept : p.refused ≡ false
 
 -- `begin` took these, refused or not
 pub record IsBegun (shown : Shown) (clocks : ℕ) (refused : Bool) (before now : PipeState) : Type 0 where

@@ -9,7 +9,9 @@
 //! * `source`, `sink`: bytes that are read, bytes that are written
 //! * `mem_source`, `mem_sink`: the two over memory, with faults at chosen calls
 //! * `bounded_list`: a list whose length is bounded both ways
-//! * `aux_port`: the AUX channel, as requests, answers and their history
+//! * `transfer`: whole writes
+//! * `aux_port`: the AUX channel, as requests, answers and their history; `entry_list`: such a history, recorded
+//! * `port_event`, `event_list`: what happens at a port
 #![tactic(auto)]
 
 mod arrivals;
@@ -17,6 +19,8 @@ mod aux_port;
 mod beam;
 mod bounded_list;
 mod depth;
+mod entry_list;
+mod event_list;
 mod fault;
 mod lane_bytes;
 mod lane_set;
@@ -30,6 +34,7 @@ mod pipe;
 mod pixel;
 mod pixel_record;
 mod place;
+mod port_event;
 mod rate;
 mod raw_mode;
 mod scan;
@@ -37,6 +42,7 @@ mod sink;
 mod slot;
 mod source;
 mod sym;
+mod transfer;
 mod workers;
 
 pub use arrivals::Arrivals;
@@ -44,6 +50,8 @@ pub use aux_port::{Answer, AuxPort, Entry};
 pub use beam::Beam;
 pub use bounded_list::{BoundedList, Bytes20};
 pub use depth::Depth;
+pub use entry_list::EntryList;
+pub use event_list::EventList;
 pub use fault::{Failed, Memory};
 pub use lane_bytes::LaneBytes;
 pub use lane_set::LaneSet;
@@ -57,10 +65,12 @@ pub use pipe::{BeginEnd, Pipe, PipeEnd};
 pub use pixel::Pixel;
 pub use pixel_record::{read_pixel, write_pixel};
 pub use place::Place;
+pub use port_event::PortEvent;
 pub use rate::Rate;
 pub use raw_mode::{ModeField, RawMode};
 pub use sink::Sink;
 pub use slot::{Slot, Stuffing};
 pub use source::Source;
 pub use sym::Sym;
+pub use transfer::write_whole;
 pub use workers::{Gate, NoGate, Workers};

@@ -20,7 +20,7 @@ use Rattle.dpx_source.specs.declared.sending.DriveEnd.{DriveEnd}
 use Rattle.dpx_source.specs.declared.sending.DriveEnd.TheVariants as drive
 use Rattle.dpx_source.specs.declared.sending.Sent.{Sent}
 use Rattle.dpx_source.specs.Drive.{HandedFront, HandedAll, sent_of, TakenFront, TakenAll, IsFront, IsWhole, StopsBad, StopsShort}
-use Rattle.dpx_source.specs.Transfer.{AppendsFront}
+use Rattle.dpx_base.specs.Transfer.{AppendsFront}
 use Rattle.dpx_cli.specs.declared.stop.Stop.{Stop}
 use Rattle.dpx_cli.specs.declared.stop.Stop.TheVariants as stop
 use Rattle.dpx_cli.specs.Printing.{StepPrints, StepsDo}
@@ -29,8 +29,8 @@ use Rattle.dpx_cli.specs.Sending.{SendsFront, SendsAll, SentSome, SentAll, PlanS
 use Rattle.dpx_cli.specs.Step.{Step, ◌⇒◌}
 use Rattle.dpx_cli.specs.Stop.{stop_of_begin, stop_of_drive}
 use Rattle.dpx_cli.specs.Transfer.{Prints, PrintsFront}
-use Rattle.dpx_cli.proofs.Printings.{Appends-none, breaks_behind, prints_more, prints_nothing}
-use Rattle.dpx_cli.proofs.Transfers.{Appends-more}
+use Rattle.dpx_cli.proofs.Printings.{breaks_behind, prints_more, prints_nothing}
+use Rattle.dpx_base.proofs.Appending.{appends_none, appends_more}
 
 pub carried : (p : PlanFacts) → IsPlan p → IsCarried p.mode p.link
 unfolding n m
@@ -63,7 +63,7 @@ all_front None sets e = tt
 all_front (Some handed) sets e = record { rest = []; is = append-nil handed ∙ e }
 
 pub nothing_taken : (taken : Option (List ℕ)) (bytes : List ℕ) → AppendsFront taken taken bytes
-nothing_taken taken bytes = record { front = []; rest = bytes; divided = refl; taken = Appends-none taken }
+nothing_taken taken bytes = record { front = []; rest = bytes; divided = refl; taken = appends_none taken }
 
 module _ (p : PlanFacts) (pixels : List Pixel) (before middle now : Option (List ℕ)) where
   -- the header was taken, and then a front of the words
@@ -78,7 +78,7 @@ module _ (p : PlanFacts) (pixels : List Pixel) (before middle now : Option (List
             is.bytes_are
             ∙ (ap (λ xs. header_bytes p.link ++ xs) words.divided
             ∙ sym (append_assoc (header_bytes p.link) words.front words.rest));
-        taken = Appends-more before middle now (header_bytes p.link) words.front header words.taken;
+        taken = appends_more before middle now (header_bytes p.link) words.front header words.taken;
       }
 
 -- a front of the header was taken
@@ -135,7 +135,7 @@ module _ (p : PlanFacts) (before now : PipeState) (pix pix_headed pix_now : Sink
     handed = handed;
     bytes = header_bytes p.link ++ _;
     capture = record { words = all.words; sent = all.sent; bytes_are = refl };
-    taken = Appends-more pix.taken pix_headed.taken pix_now.taken (header_bytes p.link) _ headed.taken all.taken;
+    taken = appends_more pix.taken pix_headed.taken pix_now.taken (header_bytes p.link) _ headed.taken all.taken;
   }
 
   pub all_sent : IfSome before.pixels (λ pixels. IsWhole p pixels)

@@ -13,20 +13,16 @@ use Rattle.dpx_cli.specs.Step.{Step, ◌⇒◌}
 use Rattle.dpx_cli.specs.Stop.{stop_lines, stop_status}
 use Rattle.dpx_cli.specs.Transfer.{Prints, PrintsFront}
 use Rattle.dpx_cli.specs.Printing.{StepsPrint, EndsWith, StopsBehind, StopsAtOnce, Finishes, CommandPrints}
-use Rattle.dpx_cli.proofs.Transfers.{Appends-more}
-
-pub Appends-none : (taken : Option (List ℕ)) → Appends taken taken []
-Appends-none None = tt
-Appends-none (Some all) = sym (append-nil all)
+use Rattle.dpx_base.proofs.Appending.{appends_none, appends_more}
 
 pub prints_nothing : (out now : SinkSeen) → now ≡ out → Prints (out ⇒ now) []
 prints_nothing out now e =
-    subst (λ (o : SinkSeen). Prints (out ⇒ o) []) (sym e) (record { taken = Appends-none out.taken; calm = refl })
+    subst (λ (o : SinkSeen). Prints (out ⇒ o) []) (sym e) (record { taken = appends_none out.taken; calm = refl })
 
 module _ {out middle now : SinkSeen} {xs : List ℕ} (first : Prints (out ⇒ middle) xs) where
   pub prints_more : {ys : List ℕ} → Prints (middle ⇒ now) ys → Prints (out ⇒ now) (xs ++ ys)
   prints_more {ys = ys} next = record {
-    taken = Appends-more _ _ _ xs ys first.taken next.taken;
+    taken = appends_more _ _ _ xs ys first.taken next.taken;
     calm = next.calm ∙ first.calm;
   }
 
@@ -35,7 +31,7 @@ module _ {out middle now : SinkSeen} {xs : List ℕ} (first : Prints (out ⇒ mi
     front = xs ++ next.front;
     rest = next.rest;
     divided = ap (λ zs. xs ++ zs) next.divided ∙ sym (append_assoc xs next.front next.rest);
-    taken = Appends-more _ _ _ xs next.front first.taken next.taken;
+    taken = appends_more _ _ _ xs next.front first.taken next.taken;
     failed = record { more = omega (arith, first.calm, next.failed.more) };
   }
 

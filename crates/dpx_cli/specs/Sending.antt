@@ -10,7 +10,7 @@ use Rattle.dpx_base.specs.Pipe.{PipeState}
 use Rattle.dpx_base.specs.Plan.{PlanFacts}
 use Rattle.dpx_base.specs.Seen.{SinkSeen}
 use Rattle.dpx_source.specs.Drive.{HandedFront, HandedAll, IsWhole, StopsBad, StopsShort}
-use Rattle.dpx_source.specs.Transfer.{AppendsFront}
+use Rattle.dpx_base.specs.Transfer.{AppendsFront}
 use Rattle.dpx_files.specs.declared.shape.Shape.{Shape}
 use Rattle.dpx_timing.specs.Fit.{fit_of}
 use Rattle.dpx_cli.specs.declared.stop.Stop.{Stop}

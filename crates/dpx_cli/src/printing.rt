@@ -8,7 +8,7 @@ use crate::lines::push_train_end;
 use crate::report::Report;
 use crate::send_lines::{push_plan, push_sent};
 use crate::stop::{MEMORY, Stop};
-use crate::transfer::write_whole;
+use crate::transfer::write_text;
 use dpx_base::Sink;
 use dpx_link::TrainEnd;
 use dpx_timing::Plan;
@@ -49,7 +49,7 @@ pub(crate) fn print_sent<O: Sink>(alloc: Global, out: &mut O, plan: &Plan) -> Re
 fn print<O: Sink>(out: &mut O, report: &Report) -> Result<(), Stop>
     ensures { StepPrints (O.seen out.old ⇒ O.seen out.new) report.now result }
 {
-    match write_whole(out, report.as_bytes()) {
+    match write_text(out, report.as_bytes()) {
         Ok(()) => Ok(()),
         Err(_) => Err(Stop::OutFault),
     }
@@ -80,7 +80,7 @@ pub(crate) fn print_stop<O: Sink>(alloc: Global, out: &mut O, stop: &Stop) -> u8
 fn end_with<O: Sink>(out: &mut O, text: &[u8], status: u8) -> u8
     ensures { EndsWith (O.seen out.old ⇒ O.seen out.new) text.now status result }
 {
-    match write_whole(out, text) {
+    match write_text(out, text) {
         Ok(()) => status,
         Err(_) => 8,
     }

@@ -8,7 +8,7 @@ ghost use Rattle.dpx_cli.specs.Stop.{stop_of_begin, stop_of_drive};
 
 use crate::printing::{print_plan, print_sent};
 use crate::stop::Stop;
-use crate::transfer::write_whole;
+use crate::transfer::write_text;
 use dpx_base::{BeginEnd, Gate, Link, Pipe, Sink, Workers};
 use dpx_files::{Shape, header_bytes};
 use dpx_lane::a_capture_is_one;
@@ -105,7 +105,7 @@ fn write_frames<T: Pipe, O: Sink, G: Gate, R: Threads + Sync>(
     ensures { WritesCapture sender.old.ticker.plan (T.state pipe.old ⇒ T.state pipe.new)
         (O.seen pix.old ⇒ O.seen pix.new) ⊥ result }
 {
-    match write_whole(pix, &header_bytes(link)) {
+    match write_text(pix, &header_bytes(link)) {
         Ok(()) => match drive(rt, sender, pipe, pix, workers, gate) {
             Ok(_) => Ok(()),
             Err(end) => Err(stop_of_drive(end)),

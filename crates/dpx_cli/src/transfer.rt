@@ -4,7 +4,7 @@ ghost use Rattle.dpx_cli.specs.declared.transfer.ReadEnd.{ReadEnd};
 ghost use Rattle.dpx_cli.specs.Step.{◌⇒◌};
 ghost use Rattle.dpx_cli.specs.Transfer.{ReadsWhole, Prints, PrintsFront};
 
-use dpx_base::{Failed, Sink, Source};
+use dpx_base::{Failed, Sink, Source, write_whole};
 use dpx_files::LONGEST_JOB;
 use std::alloc::Global;
 
@@ -44,13 +44,9 @@ pub(crate) fn read_whole<S: Source>(alloc: Global, src: &mut S) -> Result<Vec<u8
 }
 
 /// Writes all of the bytes, or as many as are taken before a write fails.
-pub(crate) fn write_whole<O: Sink>(out: &mut O, bytes: &[u8]) -> Result<(), Failed>
+pub(crate) fn write_text<O: Sink>(out: &mut O, bytes: &[u8]) -> Result<(), Failed>
     ensures whole { OnOk result (Prints (O.seen out.old ⇒ O.seen out.new) bytes.now) }
     ensures front { OnErr result (PrintsFront (O.seen out.old ⇒ O.seen out.new) bytes.now) }
 {
-    let mut start = 0;
-    while start < bytes.len() {
-        start += out.write(&bytes[start..])?;
-    }
-    Ok(())
+    write_whole(out, bytes)
 }

@@ -1,4 +1,3 @@
-pub mod Transfers
 pub mod Texts
 pub mod Stores
 pub mod Onto

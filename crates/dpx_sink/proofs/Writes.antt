@@ -4,17 +4,18 @@ use Rattle.std.proofs.lemmas.List.{append-nil}
 use Rattle.std.specs.Io.KnownBytes.{Appends}
 use Rattle.dpx_align.specs.declared.align_bad.AlignBad.{AlignBad}
 use Rattle.dpx_parse.specs.declared.bad.ParseBad.{ParseBad}
-use Rattle.dpx_sink.specs.Writes.{AppendsFront, Sinks, Wrote, WroteFront, Refused, Went}
+use Rattle.dpx_base.specs.Transfer.{AppendsFront}
+use Rattle.dpx_sink.specs.Writes.{Sinks, Wrote, WroteFront, Refused, Went}
 use Rattle.dpx_sink.specs.declared.recv_end.RecvEnd.{RecvEnd}
 use Rattle.dpx_sink.specs.declared.recv_end.RecvEnd.TheVariants.{Align, Parse, WriteFault}
-use Rattle.dpx_sink.proofs.Transfers.{Appends-more, Appends-none}
+use Rattle.dpx_base.proofs.Appending.{appends_more, appends_none}
 
 pub nothing_wrote : (s : Sinks) (p l : List ℕ) (R : List ℕ → List ℕ → Type 0) → R p l → Wrote s s p l R
 nothing_wrote s p l R r = record {
   more_records = [];
   more_text = [];
-  pix_took = Appends-none s.pix.taken;
-  log_took = Appends-none s.log.taken;
+  pix_took = appends_none s.pix.taken;
+  log_took = appends_none s.log.taken;
   so = subst (λ q. R q (l ++ [])) (sym (append-nil p)) (subst (λ m. R p m) (sym (append-nil l)) r);
 }
 
@@ -31,8 +32,8 @@ wrote_on a b c p l R S w next =
     record {
       more_records = w.more_records ++ v.more_records;
       more_text = w.more_text ++ v.more_text;
-      pix_took = Appends-more a.pix.taken b.pix.taken c.pix.taken w.more_records v.more_records w.pix_took v.pix_took;
-      log_took = Appends-more a.log.taken b.log.taken c.log.taken w.more_text v.more_text w.log_took v.log_took;
+      pix_took = appends_more a.pix.taken b.pix.taken c.pix.taken w.more_records v.more_records w.pix_took v.pix_took;
+      log_took = appends_more a.log.taken b.log.taken c.log.taken w.more_text v.more_text w.log_took v.log_took;
       so = both S p w.more_records v.more_records l w.more_text v.more_text v.so;
     }
 
@@ -42,7 +43,7 @@ front_behind a b c xs ys t f = record {
   front = xs ++ f.front;
   rest = f.rest;
   divided = ap (λ zs. xs ++ zs) f.divided ∙ sym (append_assoc xs f.front f.rest);
-  taken = Appends-more a b c xs f.front t f.taken;
+  taken = appends_more a b c xs f.front t f.taken;
 }
 
 -- some writes, and then a write that fails

@@ -1,9 +1,10 @@
 -- What two sinks took: one of records of pixels, one of lines of text.
-use Rattle.std.specs.Prelude.{◌≡◌, ℕ, ◌⊎◌, ◌≤◌, List, ◌++◌, Option, Result, Ok, Err}
+use Rattle.std.specs.Prelude.{◌≡◌, ℕ, ◌⊎◌, ◌≤◌, List, ◌++◌, Result, Ok, Err}
 use Rattle.std.specs.Io.KnownBytes.{Appends}
 use Rattle.dpx_align.specs.declared.align_bad.AlignBad.{AlignBad}
 use Rattle.dpx_base.specs.Faults.{Rose}
 use Rattle.dpx_base.specs.Seen.{SinkSeen}
+use Rattle.dpx_base.specs.Transfer.{AppendsFront}
 use Rattle.dpx_parse.specs.declared.bad.ParseBad.{ParseBad}
 use Rattle.dpx_sink.specs.declared.recv_end.RecvEnd.{RecvEnd}
 use Rattle.dpx_sink.specs.declared.recv_end.RecvEnd.TheVariants.{Align, Parse, WriteFault}
@@ -15,13 +16,6 @@ pub record Sinks : Type 0 where
 
 abbrev pub sinks : SinkSeen → SinkSeen → Sinks
 sinks pix log = record { pix = pix; log = log }
-
--- a front of the bytes was taken
-pub record AppendsFront (before now : Option (List ℕ)) (bytes : List ℕ) : Type 0 where
-  pub front : List ℕ
-  pub rest : List ℕ
-  pub divided : bytes ≡ front ++ rest
-  pub taken : Appends before now front
 
 -- Behind these records and this text the sinks took some more of each, and of the whole of both R holds.
 pub record Wrote (before now : Sinks) (records text : List ℕ) (R : List ℕ → List ℕ → Type 0) : Type 0 where

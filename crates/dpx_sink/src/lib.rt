@@ -2,7 +2,7 @@
 //! lines of attributes.
 //!
 //! * `recv_end`, `finish_end`: how it ends
-//! * `write`: whole writes; `attributes_line`: the text of attributes
+//! * `attributes_line`: the text of attributes
 //! * `line_store`, `unpack`: the line under way, and its pixels' records
 //! * `lines`: what events give; `reader`: from words to what is written
 //! * `clocks`: from bytes in any pieces to whole clocks
@@ -16,7 +16,6 @@ mod lines;
 mod reader;
 mod recv_end;
 mod unpack;
-mod write;
 
 pub use finish_end::{FinishEnd, Received};
 pub use recv_end::RecvEnd;

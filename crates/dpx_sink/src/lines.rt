@@ -6,13 +6,13 @@ ghost use Rattle.dpx_parse.specs.Stands.{number_of};
 ghost use Rattle.dpx_parse.specs.declared.event.Event.{Event};
 ghost use Rattle.dpx_sink.specs.Room.{line_room};
 ghost use Rattle.dpx_sink.specs.Told.{Under, none, Tally, no_tally, after, tallied, records_of, text_of, frames_in};
-ghost use Rattle.dpx_sink.specs.Writes.{AppendsFront, Calm, OneRose, sinks};
+ghost use Rattle.dpx_base.specs.Transfer.{AppendsFront};
+ghost use Rattle.dpx_sink.specs.Writes.{Calm, OneRose, sinks};
 
 use crate::attributes_line::attributes_line;
 use crate::line_store::{LINE_ROOM, LineStore};
 use crate::unpack::LanePixels;
-use crate::write::write_whole;
-use dpx_base::{Failed, LaneBytes, Lanes, Memory, Sink};
+use dpx_base::{Failed, LaneBytes, Lanes, Memory, Sink, write_whole};
 use dpx_msa::Attributes;
 use dpx_parse::Event;
 use std::alloc::Global;

@@ -23,10 +23,10 @@ use Rattle.dpx_lane.specs.declared.lane_tx.LaneTx.{LaneTx}
 use Rattle.dpx_lane.proofs.Sends.{codes_join}
 use Rattle.dpx_lane.proofs.Teams.{team_sends}
 use Rattle.dpx_source.specs.Framing.{AreSymbols}
-use Rattle.dpx_source.specs.Transfer.{AppendsFront}
+use Rattle.dpx_base.specs.Transfer.{AppendsFront}
 use Rattle.dpx_source.specs.WordWriter.{HasWritten, HasWrittenFront, HasWrittenAll, LanesSent, codes_of, rows_of}
 use Rattle.dpx_source.specs.WordWriter.{with_fills}
-use Rattle.dpx_source.proofs.Appending.{appends_more, all_front, front_more}
+use Rattle.dpx_base.proofs.Appending.{appends_more, all_front, front_more}
 use Rattle.dpx_source.proofs.LaneSents.{some_lane, team_sent, sent_length, bytes_front}
 use Rattle.dpx_source.proofs.WordBytes.{Joins, bytes_join}
 

@@ -26,11 +26,11 @@ use Rattle.dpx_source.specs.Drive.{IsFront, HasBegun, TakenFront, TakenAll, pixe
 use Rattle.dpx_source.specs.Going.{Going, Ends, Sending, IsDriven, first_sets}
 use Rattle.dpx_source.specs.Sender.{SenderState, IsNew}
 use Rattle.dpx_source.specs.Ticker.{TickerState, shown}
-use Rattle.dpx_source.specs.Transfer.{AppendsFront}
+use Rattle.dpx_base.specs.Transfer.{AppendsFront}
 use Rattle.dpx_source.specs.WordWriter.{HasWrittenFront, HasWrittenAll, LanesSent, codes_of, rows_of, with_fills}
 use Rattle.dpx_source.proofs.AllArrived.{all_come}
 use Rattle.dpx_source.proofs.AllSent.{whole_sent, sent_is_whole, with_fills_length}
-use Rattle.dpx_source.proofs.Appending.{appends_none}
+use Rattle.dpx_base.proofs.Appending.{appends_none}
 use Rattle.dpx_source.proofs.Batches.{no_codes_of, sendable_none}
 use Rattle.dpx_source.proofs.Fronts.{goes, take_front}
 use Rattle.dpx_source.proofs.Stops.{given_front, told_front}

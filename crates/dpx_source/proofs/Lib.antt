@@ -3,7 +3,6 @@ pub mod ActiveLines
 pub mod AllArrived
 pub mod AllSent
 pub mod AllSymbols
-pub mod Appending
 pub mod Arrived
 pub mod Batches
 pub mod Drives
@@ -23,6 +22,7 @@ pub mod Stops
 pub mod Sums
 pub mod Table
 pub mod SetSymbols
+pub mod Slices
 pub mod WordBytes
 pub mod WordsThere
 pub mod Writers

@@ -16,7 +16,7 @@ use Rattle.dpx_source.specs.declared.sending.DriveEnd.TheVariants.{BadPixel, End
 use Rattle.dpx_source.specs.declared.sending.Sent.{Sent}
 use Rattle.dpx_source.specs.Pixels.{first_bad}
 use Rattle.dpx_source.specs.Ticker.{TickerState, StandsFor, shown}
-use Rattle.dpx_source.specs.Transfer.{AppendsFront}
+use Rattle.dpx_base.specs.Transfer.{AppendsFront}
 
 -- a pipe that has just begun with the frames and the clocks of a plan
 pub record HasBegun (p : PlanFacts) (pipe : PipeState) : Type 0 where

@@ -7,6 +7,5 @@ pub mod Pixels
 pub mod Sender
 pub mod SenderFields
 pub mod Ticker
-pub mod Transfer
 pub mod Waiting
 pub mod WordWriter

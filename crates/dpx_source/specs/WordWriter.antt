@@ -13,7 +13,7 @@ use Rattle.dpx_lane.specs.Sending.{IsSent}
 use Rattle.dpx_lane.specs.Team.{TeamFacts, TeamSent}
 use Rattle.dpx_lane.specs.declared.lane_tx.LaneTx.{LaneTx}
 use Rattle.dpx_source.specs.declared.word_writer.WordWriter.{WordWriter}
-use Rattle.dpx_source.specs.Transfer.{AppendsFront}
+use Rattle.dpx_base.specs.Transfer.{AppendsFront}
 
 -- its rows are those of its lanes, hold codes alone, and their words have room in its bytes
 pub record IsWriter (w : WordWriter) : Type 0 where

@@ -3,7 +3,7 @@
 //! * `ticker`: the sets of a plan, one a clock
 //! * `framing`: the sets that carry no bytes of lines
 //! * `range`, `bad_pixel`: pixels whose components are out of range
-//! * `transfer`, `word_writer`: the words of sets, and their bytes
+//! * `word_writer`: the words of sets, and their bytes
 //! * `clocks`, `sender`, `sending`: all that a plan sends, over a pipe and a sink
 //! * `laws`: what waits in a ticker, and in which one way sending ends
 #![tactic(auto)]
@@ -16,7 +16,6 @@ mod range;
 mod sender;
 mod sending;
 mod ticker;
-mod transfer;
 mod word_writer;
 
 pub use bad_pixel::BadPixel;
@@ -24,4 +23,3 @@ pub use laws::{bytes_wait, pipes_begin, sending_ends_once, words_are_there};
 pub use sender::Sender;
 pub use sending::{DriveEnd, Sent, drive};
 pub use ticker::Ticker;
-pub use transfer::write_whole;

@@ -9,8 +9,7 @@ ghost use Rattle.dpx_lane.specs.Team.{TeamSent};
 ghost use Rattle.dpx_source.specs.Framing.{AreSymbols};
 ghost use Rattle.dpx_source.specs.WordWriter.{IsWriter, HasWritten, HasWrittenFront, HasWrittenAll, with_fills};
 
-use crate::transfer::write_whole;
-use dpx_base::{Failed, Gate, LaneSet, Lanes, Memory, Sink, Sym, Workers};
+use dpx_base::{Failed, Gate, LaneSet, Lanes, Memory, Sink, Sym, Workers, write_whole};
 use dpx_lane::{LaneRows, LaneTeam, LaneTx};
 use std::alloc::Global;
 use std::thread::Threads;

@@ -8,7 +8,7 @@ use Rattle.dpx_cli.proofs.sending.write_frames.Goals as goal
 pub returns-in-Ok-drive : goal.returns-in-Ok-drive
 returns-in-Ok-drive g c =
     let p = c.args.sender.now.ticker.plan in
-    let headed : Prints (g.O.Sink.seen c.args.pix.now ⇒ g.O.Sink.seen c.write_whole.new.out) (header_bytes p.link) =
+    let headed : Prints (g.O.Sink.seen c.args.pix.now ⇒ g.O.Sink.seen c.write_text.new.out) (header_bytes p.link) =
     rw (c.requires.link, ← c.header_bytes.ensures) c.in-Ok.ensures.whole in
     let did = c.in-Ok-drive.ensures in (
       all_sent p _ _ _ _ _ headed did.whole did.all_sets did.all_bytes,
@@ -19,7 +19,7 @@ returns-in-Ok-drive g c =
 pub returns-in-Err-drive : goal.returns-in-Err-drive
 returns-in-Err-drive g c =
     let p = c.args.sender.now.ticker.plan in
-    let headed : Prints (g.O.Sink.seen c.args.pix.now ⇒ g.O.Sink.seen c.write_whole.new.out) (header_bytes p.link) =
+    let headed : Prints (g.O.Sink.seen c.args.pix.now ⇒ g.O.Sink.seen c.write_text.new.out) (header_bytes p.link) =
     rw (c.requires.link, ← c.header_bytes.ensures) c.in-Ok.ensures.whole in
     let did = c.in-Err-drive.ensures in
     rw c.stop_of_drive.ensures
@@ -29,6 +29,6 @@ returns-in-Err-drive g c =
 pub returns-in-Err : goal.returns-in-Err
 returns-in-Err g c =
     let p = c.args.sender.now.ticker.plan in
-    let front : PrintsFront (g.O.Sink.seen c.args.pix.now ⇒ g.O.Sink.seen c.write_whole.new.out) (header_bytes p.link) =
+    let front : PrintsFront (g.O.Sink.seen c.args.pix.now ⇒ g.O.Sink.seen c.write_text.new.out) (header_bytes p.link) =
     rw (c.requires.link, ← c.header_bytes.ensures) c.in-Err.ensures.front in
     header_broken p _ _ c.requires.begun.no_sets front

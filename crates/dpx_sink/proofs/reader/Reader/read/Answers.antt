@@ -1,7 +1,7 @@
 use Rattle.std.proofs.Common.{[], ◌∷◌, ◌++◌, subst}
 use Rattle.std.specs.Io.KnownBytes.{Appends}
 use Rattle.dpx_base.specs.Lanes.{lanes_count}
-use Rattle.dpx_sink.specs.Writes.{AppendsFront}
+use Rattle.dpx_base.specs.Transfer.{AppendsFront}
 use Rattle.dpx_sink.specs.Told.{after, records_of, text_of, tallied}
 use Rattle.dpx_sink.proofs.Events.{tell_on}
 use Rattle.dpx_sink.proofs.Fitting.{fits}

@@ -2,7 +2,7 @@ use Rattle.std.proofs.Common.{◌≡◌, ℕ, List, length, sym, ap, ◌∙◌}
 use Rattle.dpx_base.specs.Capture.{word_bytes}
 use Rattle.dpx_base.specs.Lanes.{lanes_count}
 use Rattle.dpx_base.specs.declared.lanes.Lanes.{Lanes}
-use Rattle.dpx_source.proofs.Appending.{put_back}
+use Rattle.dpx_source.proofs.Slices.{put_back}
 use Rattle.dpx_source.proofs.Batches.{each_takes, batch_written, batch_front}
 use Rattle.dpx_source.proofs.Outcomes.{on_ok, on_err}
 use Rattle.dpx_source.proofs.word_writer.WordWriter.write_batch.Goals as goal

@@ -1,9 +1,9 @@
 ghost use Rattle.std.specs.Prelude.{OnOk, OnErr};
 ghost use Rattle.std.specs.Io.KnownBytes.{Appends};
 ghost use Rattle.dpx_base.specs.Faults.{HasCause};
-ghost use Rattle.dpx_source.specs.Transfer.{AppendsFront};
+ghost use Rattle.dpx_base.specs.Transfer.{AppendsFront};
 
-use dpx_base::{Failed, Sink};
+use crate::{Failed, Sink};
 
 /// Writes all of the bytes, or as many as are taken before a write fails.
 pub fn write_whole<O: Sink>(out: &mut O, bytes: &[u8]) -> Result<(), Failed>

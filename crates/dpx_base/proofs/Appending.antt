@@ -1,9 +1,8 @@
 -- What a sink took, piece by piece.
-use Rattle.std.proofs.Common.{◌≡◌, ℕ, List, [], ◌++◌, length, take, drop, sym, ap, ◌∙◌, append_assoc, append-nil}
+use Rattle.std.proofs.Common.{◌≡◌, ℕ, List, [], ◌++◌, sym, ap, ◌∙◌, append_assoc, append-nil}
 use Rattle.std.proofs.Common.{Option, Some, None}
-use Rattle.std.proofs.Math.Seq.{take-append_seam}
 use Rattle.std.specs.Io.KnownBytes.{Appends, Keeps}
-use Rattle.dpx_source.specs.Transfer.{AppendsFront}
+use Rattle.dpx_base.specs.Transfer.{AppendsFront}
 
 pub appends_none : (told : Option (List ℕ)) → Appends told told []
 appends_none None = tt
@@ -40,7 +39,3 @@ front_more before middle now xs ys rest all e a f =
           ∙ append_assoc (xs ++ f.front) f.rest rest));
       taken = appends_more before middle now xs f.front a f.taken;
     }
-
--- a slice put back whole is what stands there
-pub put_back : (len : ℕ) (new old : List ℕ) → len ≡ length new → take len (new ++ drop (length new) old) ≡ new
-put_back len new old e = rw e (take-append_seam new (drop (length new) old))

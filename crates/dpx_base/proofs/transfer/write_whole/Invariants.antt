@@ -1,6 +1,6 @@
 use Rattle.std.proofs.Common.{◌≡◌, ◌≤◌, ◌-◌, length, take}
 use Rattle.std.specs.Io.KnownBytes.{Appends}
-use Rattle.dpx_source.proofs.transfer.write_whole.Given as goal
+use Rattle.dpx_base.proofs.transfer.write_whole.Given as goal
 
 -- the bytes before the place were taken, and no write failed
 abbrev pub invariant-loop-start : goal.invariant-loop-start

@@ -2,8 +2,8 @@ use Rattle.std.proofs.Common.{◌≡◌, ◌-◌, length, take, drop, sym, ap, �
 use Rattle.std.proofs.Math.Seq.{take-add}
 use Rattle.std.proofs.lemmas.List.{take_rest, take-append-drop}
 use Rattle.std.proofs.lemmas.Result.{err_from_is_err_and}
-use Rattle.dpx_source.proofs.Appending.{appends_more, appends_kept}
-use Rattle.dpx_source.proofs.transfer.write_whole.Goals as goal
+use Rattle.dpx_base.proofs.Appending.{appends_more, appends_kept}
+use Rattle.dpx_base.proofs.transfer.write_whole.Goals as goal
 
 pub returns-in_err-start-clause-front : goal.returns-in_err-start-clause-front
 returns-in_err-start-clause-front g c =
