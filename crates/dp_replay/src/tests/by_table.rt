@@ -1,5 +1,5 @@
-//! What the command `send` hands the pipe and writes, beside sets and words computed whole and slowly from the tables of
-//! clocks, of packing, of attributes and of the code.
+//! What the command `send` hands the pipe and writes, beside sets and words computed whole and slowly from the tables
+//! of clocks, of packing, of attributes and of the code.
 
 use super::sending::{CALM, Stage, ends};
 use dpx_base::{LaneSet, Sym};

@@ -1,5 +1,5 @@
-//! The set of a clock: the first line of the table of clocks that applies to it. A symbol's code is its byte, and 256 more
-//! for a control symbol.
+//! The set of a clock: the first line of the table of clocks that applies to it. A symbol's code is its byte, and 256
+//! more for a control symbol.
 
 use super::shape::{Plan, Shape, scaled};
 
