@@ -11,6 +11,7 @@ use std::str;
 use std::test::Fail;
 use std::thread::Threads;
 
+mod by_table;
 mod faults;
 mod histories;
 mod reports;
