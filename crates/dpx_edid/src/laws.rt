@@ -1,5 +1,5 @@
 //! Laws of the definitions. Each function's contract is the law.
-ghost use Rattle.std.specs.Prelude.{◌≡◌, ◌≤◌, Some, IfSome};
+ghost use Rattle.std.specs.Prelude.{◌≡◌, ◌≤◌, length, Some, IfSome};
 ghost use Rattle.dpx_base.specs.Mode.{ModeFacts, IsLegal};
 ghost use Rattle.dpx_base.specs.Port.{asks};
 ghost use Rattle.dpx_aux.specs.Conversation.{AlwaysIs, IsDecided, HistoriesAre, Suffices};
@@ -18,10 +18,11 @@ pub fn some_fetch()
     ensures { Suffices fetch_asks Fetch }
 {}
 
-/// A fetch asks at most 912 times, 8 times in each of 114 transactions.
+/// A fetch asks at most 912 times, 8 times in each of 114 transactions, and its history has no more entries than that.
 pub fn is_bounded()
     ensures number { fetch_asks ≡ 912 }
     ensures asks { HistoriesAre Fetch (λ history. asks history ≤ fetch_asks) }
+    ensures entries { HistoriesAre Fetch (λ history. length history ≤ fetch_asks) }
 {}
 
 /// Whatever its history, a fetch that was refused ended at a refusal, one that is spent at the eighth answer in vain,

@@ -1,6 +1,6 @@
 //! Modes in use: VESA DMT, CVT with reduced blanking, and CTA-861.
 
-use super::timing::{Says, numbers, says};
+use super::timing::{Says, numbers, slot_says};
 use dpx_base::{Depth, Mode, RawMode};
 use dpx_edid::{read_timing, write_timing};
 use std::process::Abort;
