@@ -229,42 +229,47 @@ fn two_frames_are_received_in_any_pieces(rt: HostRuntime) -> Result<(), Fail> {
     gives(&rt, alloc, link, bytes, all.as_slice(), Ok(ALL), 64, 2)
 }
 
+/// The bytes from one place to another.
+fn part(bytes: &[u8], from: usize, to: usize) -> &[u8] {
+    let end = to.min(bytes.len());
+    &bytes[from.min(end)..end]
+}
+
+const fn no_lock(clocks: u64) -> Result<Received, End> {
+    Err(End::Finish(FinishEnd::NoLock { clocks }))
+}
+
+const fn truncated(clock: u64, bytes: u8) -> Result<Received, End> {
+    Err(End::Finish(FinishEnd::Truncated { clock, bytes }))
+}
+
 #[test]
 fn parts_of_two_frames_end_so(rt: HostRuntime) -> Result<(), Fail> {
     let alloc = rt.alloc();
     let capture = capture(&rt, alloc, Depth::Eight, true)?;
-    let bytes = capture.bytes();
     let link = two_lanes(true);
     let within_a_line = Received {
         frames: 0,
         lines: 1,
         tail_clocks: 6,
     };
-    let no_lock = |clocks| Err(End::Finish(FinishEnd::NoLock { clocks }));
-    let truncated = |clock, bytes| Err(End::Finish(FinishEnd::Truncated { clock, bytes }));
-    assert!(rt; bytes.len() > 2000);
-    gives(&rt, alloc, link, &bytes[404..], &[], Ok(ALL), 64, 2)?;
-    gives(&rt, alloc, link, &bytes[408..], &[], no_lock(599), 0, 0)?;
-    gives(
-        &rt,
-        alloc,
-        link,
-        &bytes[..1280],
-        &[],
-        Ok(within_a_line),
-        16,
-        1,
-    )?;
-    gives(
-        &rt,
-        alloc,
-        link,
-        &bytes[..1282],
-        &[],
-        truncated(320, 2),
-        16,
-        1,
-    )?;
+    let rows = [
+        (404, 2804, Ok(ALL), 64, 2),
+        (408, 2804, no_lock(599), 0, 0),
+        (0, 1280, Ok(within_a_line), 16, 1),
+        (0, 1282, truncated(320, 2), 16, 1),
+    ];
+    for (from, to, end, pixels, lines) in rows {
+        let bytes = part(capture.bytes(), from, to);
+        gives(&rt, alloc, link, bytes, &[], end, pixels, lines)?;
+    }
+    Ok(())
+}
+
+#[test]
+fn a_capture_cut_short_has_no_lock(rt: HostRuntime) -> Result<(), Fail> {
+    let alloc = rt.alloc();
+    let capture = capture(&rt, alloc, Depth::Eight, true)?;
     for size in 0..33u8 {
         let clock = u64::from(size / 4);
         let end = if size % 4 == 0 {
@@ -272,16 +277,8 @@ fn parts_of_two_frames_end_so(rt: HostRuntime) -> Result<(), Fail> {
         } else {
             truncated(clock, size % 4)
         };
-        gives(
-            &rt,
-            alloc,
-            link,
-            &bytes[..usize::from(size)],
-            &[],
-            end,
-            0,
-            0,
-        )?;
+        let bytes = part(capture.bytes(), 0, usize::from(size));
+        gives(&rt, alloc, two_lanes(true), bytes, &[], end, 0, 0)?;
     }
     Ok(())
 }
