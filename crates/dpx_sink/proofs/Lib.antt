@@ -13,3 +13,7 @@ pub mod Readers
 pub mod Starts
 pub mod Cuts
 pub mod Batches
+pub mod Frames
+pub mod FrontsDue
+pub mod Ends
+pub mod CapturesWritten

@@ -6,3 +6,5 @@ pub mod Pixels
 pub mod Line
 pub mod Reader
 pub mod Clocks
+pub mod Receiver
+pub mod Laws

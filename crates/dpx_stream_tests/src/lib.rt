@@ -1,4 +1,5 @@
-//! Tests of layers of the main link: the schedule, the ticker, whole sends, the aligner, and the reader of sets.
+//! Tests of layers of the main link: the schedule, the ticker, whole sends, the aligner, the reader of sets, and whole
+//! captures received.
 #![tactic(auto)]
 
 #[cfg(test)]
@@ -9,6 +10,8 @@ mod frame;
 mod modes;
 #[cfg(test)]
 mod parse;
+#[cfg(test)]
+mod receive;
 #[cfg(test)]
 mod send;
 #[cfg(test)]
