@@ -1,7 +1,7 @@
 -- Which command the words ask for.
 use Rattle.std.specs.Prelude.{⊤}
 use Rattle.dpx_words.specs.declared.command.Command.{Command}
-use Rattle.dpx_words.specs.declared.command.Command.TheVariants.{Train, Send, Run}
+use Rattle.dpx_words.specs.declared.command.Command.TheVariants.{Train, Send, Run, Recv}
 
 abbrev pub IsTrain : Command → Type 0
 IsTrain (Train job) = ⊤
@@ -14,3 +14,7 @@ IsSend other = ⊥
 abbrev pub IsRun : Command → Type 0
 IsRun (Run job pixels capture workers) = ⊤
 IsRun other = ⊥
+
+abbrev pub IsRecv : Command → Type 0
+IsRecv (Recv capture pixels workers) = ⊤
+IsRecv other = ⊥
