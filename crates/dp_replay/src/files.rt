@@ -45,6 +45,13 @@ impl CommandFiles {
                 pipe: FilePipe::new(FileSource::open(rt, pixels.as_str())),
                 pix: FileSink::create(rt, capture.as_str()),
             },
+            Command::Recv {
+                capture, pixels, ..
+            } => CommandFiles {
+                src: FileSource::open(rt, capture.as_str()),
+                pix: FileSink::create(rt, pixels.as_str()),
+                ..CommandFiles::none()
+            },
         }
     }
 }

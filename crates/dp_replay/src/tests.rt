@@ -14,6 +14,8 @@ use std::thread::Threads;
 mod by_table;
 mod faults;
 mod histories;
+mod receiving;
+mod receive_faults;
 mod reports;
 mod running;
 mod send_faults;

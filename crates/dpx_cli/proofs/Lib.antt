@@ -3,6 +3,8 @@ pub mod Jobs
 pub mod LineSteps
 pub mod Modelled
 pub mod Printings
+pub mod Receivings
+pub mod Recvs
 pub mod Reportings
 pub mod Runs
 pub mod SendingCommands

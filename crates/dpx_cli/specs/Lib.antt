@@ -3,6 +3,9 @@ pub mod Digits
 pub mod Jobs
 pub mod Lines
 pub mod Printing
+pub mod Receiving
+pub mod Recv
+pub mod RecvLines
 pub mod Reporting
 pub mod Run
 pub mod Send

@@ -5,8 +5,9 @@ ghost use Rattle.dpx_link.specs.Training.{training_entries};
 ghost use Rattle.dpx_watch.specs.Step.{step_entries};
 ghost use Rattle.dpx_words.specs.Reading.{command_in};
 ghost use Rattle.dpx_cli.specs.declared.stop.Stop.{Stop};
-ghost use Rattle.dpx_cli.specs.Commands.{IsTrain, IsSend, IsRun, IsWatch};
+ghost use Rattle.dpx_cli.specs.Commands.{IsTrain, IsSend, IsRun, IsRecv, IsWatch};
 ghost use Rattle.dpx_cli.specs.Printing.{StopsAtOnce};
+ghost use Rattle.dpx_cli.specs.Recv.{RecvDoes};
 ghost use Rattle.dpx_cli.specs.Run.{RunDoes};
 ghost use Rattle.dpx_cli.specs.Send.{SendDoes};
 ghost use Rattle.dpx_cli.specs.Status.{IsExitStatus, IsClean, Means};
@@ -16,6 +17,7 @@ ghost use Rattle.dpx_cli.specs.Train.{SaysTrained, TrainDoes};
 ghost use Rattle.dpx_cli.specs.Transfer.{Prints, PrintsFirst};
 
 use crate::printing::print_stop;
+use crate::recv::recv;
 use crate::run::run;
 use crate::send::send;
 use crate::stop::Stop;
@@ -23,18 +25,22 @@ use crate::train::train;
 use crate::watch::watch;
 use dpx_base::{Gate, NoGate, Pipe, Sink, Source};
 use dpx_dpcd::LoadPort;
+use dpx_files::headers_come_back;
 use dpx_lane::a_capture_is_one;
+use dpx_reception::{captures_are_received, faults_stay, one_reception};
+use dpx_sink::{a_capture_is_received, one_end};
 use dpx_words::{Command, WordsEnd, read_words};
 use std::alloc::Global;
 use std::thread::Threads;
 
 /// Does what the words of the command line ask for: `words` are those without the program's name. The job comes from
-/// `src`, the pixels from `pipe`, a sink is loaded into `aux`, a capture goes to `pix`, the report to `out`. The result
-/// is the exit status:
+/// `src`, or a capture that is received; the pixels to be sent come from `pipe`; a sink is loaded into `aux`; a capture
+/// that is sent goes to `pix`, or the pixels that are received; the report to `out`. The result is the exit status:
 ///
 /// * 0: all was done
 /// * 2: the words have no reading; 3: the job has none, or a pixel is out of range, or pixels are missing
 /// * 4: not trained, capabilities refused, or an AUX transaction failed; 5: the mode does not fit the link
+/// * 6: the capture is refused
 /// * 7: a read failed; 8: a write failed; 9: the pipe failed; 10: want of memory
 pub fn replay<S: Source, T: Pipe, P: LoadPort, O: Sink, R: Threads + Sync>(
     rt: &R,
@@ -94,6 +100,9 @@ pub fn replay<S: Source, T: Pipe, P: LoadPort, O: Sink, R: Threads + Sync>(
         (P.state aux.old ⇒ P.state aux.new) (aux.new ≡ aux.old) (T.state pipe.old ⇒ T.state pipe.new)
         (O.seen pix.old ⇒ O.seen pix.new) ((pipe.new ≡ pipe.old) × (pix.new ≡ pix.old))
         (O.seen out.old ⇒ O.seen out.new) result }
+    ensures recv { IsSomeAnd (command_in words.now) IsRecv → RecvDoes (S.seen src.old ⇒ S.seen src.new)
+        (O.seen pix.old ⇒ O.seen pix.new) (pix.new ≡ pix.old) (O.seen out.old ⇒ O.seen out.new) result }
+    ensures recv_keeps { IsSomeAnd (command_in words.now) IsRecv → (pipe.new ≡ pipe.old) × (aux.new ≡ aux.old) }
     ensures watch { IsSomeAnd (command_in words.now) IsWatch → WatchDoes (S.seen src.old ⇒ S.seen src.new)
         (P.state aux.old ⇒ P.state aux.new) (aux.new ≡ aux.old) (O.seen out.old ⇒ O.seen out.new) result }
     ensures watch_keeps { IsSomeAnd (command_in words.now) IsWatch → (pipe.new ≡ pipe.old) × (pix.new ≡ pix.old) }
@@ -161,17 +170,27 @@ pub fn replay_gated<S: Source, T: Pipe, P: LoadPort, O: Sink, G: Gate, R: Thread
         (P.state aux.old ⇒ P.state aux.new) (aux.new ≡ aux.old) (T.state pipe.old ⇒ T.state pipe.new)
         (O.seen pix.old ⇒ O.seen pix.new) ((pipe.new ≡ pipe.old) × (pix.new ≡ pix.old))
         (O.seen out.old ⇒ O.seen out.new) result }
+    ensures recv { IsSomeAnd (command_in words.now) IsRecv → RecvDoes (S.seen src.old ⇒ S.seen src.new)
+        (O.seen pix.old ⇒ O.seen pix.new) (pix.new ≡ pix.old) (O.seen out.old ⇒ O.seen out.new) result }
+    ensures recv_keeps { IsSomeAnd (command_in words.now) IsRecv → (pipe.new ≡ pipe.old) × (aux.new ≡ aux.old) }
     ensures watch { IsSomeAnd (command_in words.now) IsWatch → WatchDoes (S.seen src.old ⇒ S.seen src.new)
         (P.state aux.old ⇒ P.state aux.new) (aux.new ≡ aux.old) (O.seen out.old ⇒ O.seen out.new) result }
     ensures watch_keeps { IsSomeAnd (command_in words.now) IsWatch → (pipe.new ≡ pipe.old) × (pix.new ≡ pix.old) }
 {
     a_capture_is_one();
+    headers_come_back();
+    one_end();
+    one_reception();
+    faults_stay();
+    captures_are_received();
+    a_capture_is_received();
     match read_words(alloc, words) {
         Ok(Command::Train { .. }) => train(alloc, src, aux, out),
         Ok(Command::Send { workers, .. }) => { send(rt, alloc, src, pipe, pix, out, workers, gate) }
         Ok(Command::Run { workers, .. }) => {
             run(rt, alloc, src, pipe, aux, pix, out, workers, gate)
         }
+        Ok(Command::Recv { workers, .. }) => recv(rt, alloc, src, pix, out, workers, gate),
         Ok(Command::Watch { .. }) => watch(alloc, src, aux, out),
         Err(WordsEnd::Usage) => print_stop(alloc, out, &Stop::Usage),
         Err(WordsEnd::Memory) => print_stop(alloc, out, &Stop::NoMemory),

@@ -1,17 +1,20 @@
 //! The commands of dp_replay: their words, their reports, and the top call.
 //!
 //! * `commands`: the top call, which finds the command in the words
-//! * `train`, `send`, `run`: the commands of these names
-//! * `job`, `training`, `sending`: steps that commands share
+//! * `train`, `send`, `run`, `recv`: the commands of these names
+//! * `job`, `training`, `sending`, `receiving`: steps of commands
 //! * `transfer`: whole reads, whole writes
 //! * `stop`, `printing`: why a command stops, what is printed and with which status it ends
-//! * `report`, `lines`, `send_lines`: the text of a report as it grows, and its lines
+//! * `report`, `lines`, `send_lines`, `recv_lines`: the text of a report as it grows, and its lines
 #![tactic(auto)]
 
 mod commands;
 mod job;
 mod lines;
 mod printing;
+mod receiving;
+mod recv;
+mod recv_lines;
 mod report;
 mod run;
 mod send;

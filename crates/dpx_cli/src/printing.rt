@@ -1,16 +1,19 @@
 ghost use Rattle.std.specs.Prelude.{◌≡◌};
 ghost use Rattle.dpx_cli.specs.Lines.{train_report};
+ghost use Rattle.dpx_cli.specs.RecvLines.{received_line};
 ghost use Rattle.dpx_cli.specs.SendLines.{plan_line, sent_line};
 ghost use Rattle.dpx_cli.specs.Printing.{StepPrints, EndsWith, Finishes, StopsAtOnce};
 ghost use Rattle.dpx_cli.specs.Step.{◌⇒◌};
 
 use crate::lines::push_train_end;
+use crate::recv_lines::push_received;
 use crate::report::Report;
 use crate::send_lines::{push_plan, push_sent};
 use crate::stop::{MEMORY, Stop};
 use crate::transfer::write_text;
 use dpx_base::Sink;
 use dpx_link::TrainEnd;
+use dpx_sink::Received;
 use dpx_timing::Plan;
 use std::alloc::Global;
 
@@ -42,6 +45,19 @@ pub(crate) fn print_sent<O: Sink>(alloc: Global, out: &mut O, plan: &Plan) -> Re
 {
     let mut report = Report::new(alloc);
     push_sent(&mut report, plan)?;
+    print(out, &report)
+}
+
+/// Prints how much was received.
+pub(crate) fn print_received<O: Sink>(
+    alloc: Global,
+    out: &mut O,
+    received: Received,
+) -> Result<(), Stop>
+    ensures { StepPrints (O.seen out.old ⇒ O.seen out.new) (received_line received) result }
+{
+    let mut report = Report::new(alloc);
+    push_received(&mut report, received)?;
     print(out, &report)
 }
 

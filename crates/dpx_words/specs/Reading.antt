@@ -8,7 +8,7 @@ use Rattle.dpx_base.specs.declared.workers.Workers.{Workers}
 use Rattle.dpx_base.specs.declared.workers.Workers.TheVariants.{One, Lanes}
 use Rattle.dpx_words.specs.Dashes.{has_dash}
 use Rattle.dpx_words.specs.declared.command.Command.{Command}
-use Rattle.dpx_words.specs.declared.command.Command.TheVariants.{Train, Send, Run, Watch}
+use Rattle.dpx_words.specs.declared.command.Command.TheVariants.{Train, Send, Run, Recv, Watch}
 use Rattle.dpx_words.specs.declared.command.WordsEnd.{WordsEnd}
 use Rattle.dpx_words.specs.declared.command.WordsEnd.TheVariants.{Usage, Memory}
 use Rattle.dpx_words.specs.declared.verbs.Sending.{Sending}
@@ -48,6 +48,10 @@ send_of rest = option_map (λ words. Send words.job words.pixels words.capture w
 abbrev pub run_of : List (List ℕ) → Option Command
 run_of rest = option_map (λ words. Run words.job words.pixels words.capture words.workers) (sending_of rest)
 
+abbrev pub recv_of : List (List ℕ) → Option Command
+recv_of (capture ∷ pixels ∷ rest) = option_map (λ workers. Recv capture pixels workers) (workers_of rest)
+recv_of _ = None
+
 -- the command of words of which none begins with a dash
 abbrev pub command_of : List (List ℕ) → Option Command
 command_of [] = None
@@ -55,6 +59,7 @@ command_of (verb ∷ rest) =
     if bytes_eq verb (codes "train") then train_of rest
     else if bytes_eq verb (codes "send") then send_of rest
     else if bytes_eq verb (codes "run") then run_of rest
+    else if bytes_eq verb (codes "recv") then recv_of rest
     else if bytes_eq verb (codes "watch") then watch_of rest
     else None
 

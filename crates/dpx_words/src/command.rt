@@ -56,6 +56,12 @@ pub enum Command {
         capture: Name,
         workers: Workers,
     },
+    /// Read a capture back into pixels.
+    Recv {
+        capture: Name,
+        pixels: Name,
+        workers: Workers,
+    },
     /// Supervise the job's link through its events.
     Watch {
         job: Name,

@@ -1,5 +1,5 @@
 ghost use Rattle.std.specs.Prelude.{map};
-ghost use Rattle.dpx_words.specs.Reading.{WordsRead, only_of, train_of, sending_of, send_of, run_of, watch_of, command_of};
+ghost use Rattle.dpx_words.specs.Reading.{WordsRead, train_of, sending_of, send_of, run_of, recv_of, command_of, only_of, watch_of};
 
 use crate::arguments::read_workers;
 use crate::{Command, Name, WordsEnd};
@@ -17,6 +17,7 @@ pub(crate) fn read_command(alloc: Global, words: &[&str]) -> Result<Command, Wor
         "train" => read_train(alloc, rest),
         "send" => read_send(alloc, rest),
         "run" => read_run(alloc, rest),
+        "recv" => read_recv(alloc, rest),
         "watch" => read_watch(alloc, rest),
         _ => Err(WordsEnd::Usage),
     }
@@ -93,5 +94,21 @@ fn read_run(alloc: Global, rest: &[&str]) -> Result<Command, WordsEnd>
         pixels: words.pixels,
         capture: words.capture,
         workers: words.workers,
+    })
+}
+
+fn read_recv(alloc: Global, rest: &[&str]) -> Result<Command, WordsEnd>
+    ensures { WordsRead (recv_of (map (λ word. word.now) rest.now)) result }
+{
+    if rest.len() < 2 {
+        return Err(WordsEnd::Usage);
+    }
+    let Some(workers) = read_workers(&rest[2..]) else {
+        return Err(WordsEnd::Usage);
+    };
+    Ok(Command::Recv {
+        capture: Name::new(alloc, rest[0])?,
+        pixels: Name::new(alloc, rest[1])?,
+        workers,
     })
 }

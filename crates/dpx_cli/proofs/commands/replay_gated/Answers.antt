@@ -1,4 +1,5 @@
 use Rattle.std.proofs.Common.{refl}
+use Rattle.dpx_cli.proofs.Recvs.{CaptureLaws, unread_words_recv}
 use Rattle.dpx_cli.proofs.Runs.{unread_words_run}
 use Rattle.dpx_cli.proofs.Sends.{unread_words_send}
 use Rattle.dpx_cli.proofs.Trainings.{unread_words_do}
@@ -18,6 +19,18 @@ pub returns-clause-run : goal.returns-clause-run
 returns-clause-run g c asked =
     unread_words_run _ _ _ _ _ _ c.a_capture_is_one.ensures (λ kept. (refl, refl)) _ _ refl (refl, refl) refl
     c.print_stop-in-Err-Memory.ensures
+
+pub returns-clause-recv : goal.returns-clause-recv
+returns-clause-recv g c asked =
+    let laws : CaptureLaws = record {
+      headers = c.headers_come_back.ensures;
+      one_end = c.one_end.ensures;
+      one_reception = c.one_reception.ensures;
+      faults_stay = c.faults_stay.ensures;
+      received = c.captures_are_received.ensures;
+      written = c.a_capture_is_received.ensures;
+    } in
+    unread_words_recv laws _ _ _ (λ kept. refl) _ _ refl refl c.print_stop-in-Err-Memory.ensures
 
 pub returns-clause-watch : goal.returns-clause-watch
 returns-clause-watch g c asked =
