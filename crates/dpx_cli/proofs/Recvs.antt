@@ -88,8 +88,14 @@ module _ (laws : CaptureLaws) (all : List ℕ) where
       by_count : (b : Bool) → ltb count 8 ≡ b → ⊥
       by_count true e =
           let all_is = ended (ltb-true count 8 e) in
-          omega (arith, ltb-true count 8 e, counted, ap length all_is, ap length good.divided,
-          length-append (header_bytes good.link) good.bytes)
+          omega (
+            arith,
+            ltb-true count 8 e,
+            counted,
+            ap length all_is,
+            ap length good.divided,
+            length-append (header_bytes good.link) good.bytes,
+          )
       by_count false e =
           let eight : count ≡ 8 = omega (arith, short, ltb-false count 8 e) in
           let both : front ++ rest ≡ header_bytes good.link ++ good.bytes = sym is ∙ good.divided in

@@ -61,9 +61,15 @@ loop-left-preserved g c =
           c.loop-left.left r _ _ c.receive_piece.ensures.link f
           (omega (arith, f.counted, f.read.few, length-take {A = ℕ}, c.min-room.ensures));
       piece =
-          omega (arith, length-append c.receive_piece.new.piece (drop c.min-room.result c.loop-left.piece),
-          length-drop c.min-room.result c.loop-left.piece, length-take c.min-room.result c.loop-left.piece,
-          c.receive_piece.ensures.piece, c.loop-left.invariant.piece, c.min-room.ensures);
+          omega (
+            arith,
+            length-append c.receive_piece.new.piece (drop c.min-room.result c.loop-left.piece),
+            length-drop c.min-room.result c.loop-left.piece,
+            length-take c.min-room.result c.loop-left.piece,
+            c.receive_piece.ensures.piece,
+            c.loop-left.invariant.piece,
+            c.min-room.ensures,
+          );
     }
 
 pub returns-in_err-read_no_more : goal.returns-in_err-read_no_more
