@@ -46,7 +46,9 @@ impl CommandFiles {
                 pix: FileSink::create(rt, capture.as_str()),
             },
             Command::Recv {
-                capture, pixels, ..
+                capture,
+                pixels,
+                ..
             } => CommandFiles {
                 src: FileSource::open(rt, capture.as_str()),
                 pix: FileSink::create(rt, pixels.as_str()),

@@ -13,8 +13,8 @@ use std::thread::Threads;
 
 mod faults;
 mod histories;
-mod receiving;
 mod receive_faults;
+mod receiving;
 mod reports;
 mod running;
 mod send_faults;

@@ -376,15 +376,18 @@ module _ (link : Link) (src src_one src_now : SourceSeen) (pix pix_now out out_n
   }
   too_much PixKept stop.ReadFault (kept, rose) = record {
     said = s.received.text;
-    caused = (rose_behind s.received.src_calm rose, inr (record {
-      link = link;
-      bytes = s.bytes;
-      reads = record {
-        consumed = Consumes-kept _ _ _ (header_bytes link ++ s.bytes) s.received.consumed kept;
-        short = omega (arith, s.left_is);
-      };
-      takes = takes;
-    }));
+    caused = (
+      rose_behind s.received.src_calm rose,
+      inr (record {
+        link = link;
+        bytes = s.bytes;
+        reads = record {
+          consumed = Consumes-kept _ _ _ (header_bytes link ++ s.bytes) s.received.consumed kept;
+          short = omega (arith, s.left_is);
+        };
+        takes = takes;
+      }),
+    );
     printed = s.received.printed;
   }
   too_much PixKept (stop.Capture _) none = absurd none

@@ -31,9 +31,9 @@ use Rattle.dpx_cli.specs.declared.stop.CaptureBad.TheVariants.{Header, Word, Set
 use Rattle.dpx_cli.specs.declared.stop.Stop.{Stop}
 use Rattle.dpx_cli.specs.declared.stop.Stop.TheVariants as stop
 use Rattle.dpx_cli.specs.Printing.{StopsAtOnce, CommandPrints}
-use Rattle.dpx_cli.specs.Receiving.{ReadsCapture, ReadsNoHeader, ReadsTooMuch, longest_capture}
-use Rattle.dpx_cli.specs.Recv.{CaptureHasFault, CaptureIsLong, CaptureIsRead, CaptureIsUnfinished, CaptureRefused, GivesBack, IsGoodCapture}
-use Rattle.dpx_cli.specs.Recv.{IsRecvStatus, IsSent, RecvCauses, RecvDoes, ReportsReceived, SaysCaptureRefused, SaysReadFault}
+use Rattle.dpx_cli.specs.Receiving.{ReadsNoHeader, longest_capture}
+use Rattle.dpx_cli.specs.Recv.{CaptureHasFault, CaptureIsRead, CaptureRefused, GivesBack, IsGoodCapture}
+use Rattle.dpx_cli.specs.Recv.{IsRecvStatus, IsSent, RecvCauses, RecvDoes, SaysCaptureRefused, SaysReadFault}
 use Rattle.dpx_cli.specs.Recv.{SaysReceived, StatusOfCapture, attributes_lines}
 use Rattle.dpx_cli.specs.Status.{IsClean}
 use Rattle.dpx_cli.specs.Step.{Step}
@@ -88,8 +88,14 @@ module _ (laws : CaptureLaws) (all : List ℕ) where
       by_count : (b : Bool) → ltb count 8 ≡ b → ⊥
       by_count true e =
           let all_is = ended (ltb-true count 8 e) in
-          omega (arith, ltb-true count 8 e, counted, ap length all_is, ap length good.divided,
-          length-append (header_bytes good.link) good.bytes)
+          omega (
+            arith,
+            ltb-true count 8 e,
+            counted,
+            ap length all_is,
+            ap length good.divided,
+            length-append (header_bytes good.link) good.bytes,
+          )
       by_count false e =
           let eight : count ≡ 8 = omega (arith, short, ltb-false count 8 e) in
           let both : front ++ rest ≡ header_bytes good.link ++ good.bytes = sym is ∙ good.divided in

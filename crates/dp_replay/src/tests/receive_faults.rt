@@ -11,7 +11,12 @@ const RECORDS: usize = 384;
 
 /// What a run leaves is a front of this, in records and in report.
 fn is_front<R: Abort>(rt: &R, heard: &Heard, whole: &Heard) {
-    assert!(rt; whole.records.as_slice().starts_with(heard.records.as_slice()));
+    assert!(rt;
+        whole
+            .records
+            .as_slice()
+            .starts_with(heard.records.as_slice())
+    );
     assert!(rt; heard.records.len() <= RECORDS);
 }
 

@@ -54,7 +54,11 @@ pub(crate) fn hear<R: Threads + Sync>(
     requires { 0 < hearing.step }
 {
     let words = words(alloc, command)?;
-    let mut src = MemSource::new(capture.to_vec(alloc)?, hearing.step, hearing.reads.to_vec(alloc)?);
+    let mut src = MemSource::new(
+        capture.to_vec(alloc)?,
+        hearing.step,
+        hearing.reads.to_vec(alloc)?,
+    );
     let mut pipe = MemPipe::new(Vec::new(alloc), Vec::new(alloc));
     let mut port = PlanPort::new(alloc)?;
     let mut pix = MemSink::new(alloc, 4096, hearing.records.to_vec(alloc)?)?;
@@ -124,8 +128,14 @@ fn hears<R: Abort + Threads + Sync>(
 {
     let heard = hear(rt, alloc, command, capture, hearing)?;
     let printed = report(alloc, frames, EIGHT, last)?;
-    assert_eq!(rt; (heard.printed.as_str(), heard.status), (printed.as_str(), status));
-    assert_eq!(rt; heard.records.as_slice(), records(alloc, 16 * lines)?.as_slice());
+    assert_eq!(rt;
+        (heard.printed.as_str(), heard.status),
+        (printed.as_str(), status)
+    );
+    assert_eq!(rt;
+        heard.records.as_slice(),
+        records(alloc, 16 * lines)?.as_slice()
+    );
     Ok(())
 }
 
@@ -133,15 +143,33 @@ fn hears<R: Abort + Threads + Sync>(
 fn what_was_sent_is_received(rt: HostRuntime) -> Result<(), Fail> {
     let sent = capture(&rt, rt.alloc(), TWO_LANES, 8)?;
     for command in ["recv a b", "recv a b one", "recv a b lanes"] {
-        hears(&rt, rt.alloc(), command, sent.as_slice(), CLEAR, (2, ALL, 0, 4))?;
+        hears(
+            &rt,
+            rt.alloc(),
+            command,
+            sent.as_slice(),
+            CLEAR,
+            (2, ALL, 0, 4),
+        )?;
     }
     let bytes = Hearing { step: 1, ..CLEAR };
-    hears(&rt, rt.alloc(), "recv a b", sent.as_slice(), bytes, (2, ALL, 0, 4))
+    hears(
+        &rt,
+        rt.alloc(),
+        "recv a b",
+        sent.as_slice(),
+        bytes,
+        (2, ALL, 0, 4),
+    )
 }
 
 /// A link, a depth, and what is received of the two frames.
 const KINDS: [(&str, u8, &str); 4] = [
-    (r#""rate":"RBR","lanes":2,"enhanced":0"#, 8, "misc0 21 depth 8"),
+    (
+        r#""rate":"RBR","lanes":2,"enhanced":0"#,
+        8,
+        "misc0 21 depth 8",
+    ),
     (TWO_LANES, 12, "misc0 61 depth 12"),
     (TWO_LANES, 16, "misc0 81 depth 16"),
     (r#""rate":"RBR","lanes":1"#, 8, "misc0 21 depth 8"),
@@ -153,8 +181,14 @@ fn each_kind_of_capture_is_received(rt: HostRuntime) -> Result<(), Fail> {
         let sent = capture(&rt, rt.alloc(), link, depth)?;
         let heard = hear(&rt, rt.alloc(), "recv a b", sent.as_slice(), CLEAR)?;
         let printed = report(rt.alloc(), 2, told, ALL)?;
-        assert_eq!(rt; (heard.printed.as_str(), heard.status), (printed.as_str(), 0));
-        assert_eq!(rt; heard.records.as_slice(), records(rt.alloc(), PIXELS)?.as_slice());
+        assert_eq!(rt;
+            (heard.printed.as_str(), heard.status),
+            (printed.as_str(), 0)
+        );
+        assert_eq!(rt;
+            heard.records.as_slice(),
+            records(rt.alloc(), PIXELS)?.as_slice()
+        );
     }
     Ok(())
 }
@@ -166,7 +200,11 @@ const CUT_OFF: [(usize, usize, Wanted); 4] = [
     // its group is cut on lane 0
     (8 + 4 * 102, 2812, (0, "no lock in 599 clocks\n", 6, 0)),
     (8, 1288, (1, "received frames 0 lines 1 tail 6\n", 0, 1)),
-    (8, 1290, (1, "capture truncated at clock 320 with 2 bytes\n", 6, 1)),
+    (
+        8,
+        1290,
+        (1, "capture truncated at clock 320 with 2 bytes\n", 6, 1),
+    ),
 ];
 
 #[test]
@@ -189,10 +227,17 @@ fn a_capture_cut_near_its_start_says_where(rt: HostRuntime) -> Result<(), Fail> 
         } else if count % 4 == 0 {
             format!(in rt.alloc(); "no lock in {} clocks\n", (count - 8) / 4)?
         } else {
-            format!(in rt.alloc(); "capture truncated at clock {} with {} bytes\n", (count - 8) / 4, count % 4)?
+            format!(in rt.alloc();
+                "capture truncated at clock {} with {} bytes\n",
+                (count - 8) / 4,
+                count % 4
+            )?
         };
         let heard = hear(&rt, rt.alloc(), "recv a b", &sent[..count], CLEAR)?;
-        assert_eq!(rt; (heard.printed.as_str(), heard.status), (report.as_str(), 6));
+        assert_eq!(rt;
+            (heard.printed.as_str(), heard.status),
+            (report.as_str(), 6)
+        );
         assert!(rt; heard.records.is_empty());
     }
     Ok(())

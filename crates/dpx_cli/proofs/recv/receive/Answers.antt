@@ -1,4 +1,4 @@
-use Rattle.std.proofs.Common.{◌≡◌, ◌≤◌, rules, arith, refl, sym, subst, length, drop, length-append, length-drop, ℕ, Ok, Err}
+use Rattle.std.proofs.Common.{◌≡◌, rules, arith, refl, sym, subst, drop, length-append, length-drop, ℕ, Ok}
 use Rattle.std.proofs.lemmas.List.{length-take}
 use Rattle.std.proofs.lemmas.Result.{err_from_is_err_and}
 use Rattle.dpx_base.specs.declared.link.Link.{Link}
@@ -61,9 +61,15 @@ loop-left-preserved g c =
           c.loop-left.left r _ _ c.receive_piece.ensures.link f
           (omega (arith, f.counted, f.read.few, length-take {A = ℕ}, c.min-room.ensures));
       piece =
-          omega (arith, length-append c.receive_piece.new.piece (drop c.min-room.result c.loop-left.piece),
-          length-drop c.min-room.result c.loop-left.piece, length-take c.min-room.result c.loop-left.piece,
-          c.receive_piece.ensures.piece, c.loop-left.invariant.piece, c.min-room.ensures);
+          omega (
+            arith,
+            length-append c.receive_piece.new.piece (drop c.min-room.result c.loop-left.piece),
+            length-drop c.min-room.result c.loop-left.piece,
+            length-take c.min-room.result c.loop-left.piece,
+            c.receive_piece.ensures.piece,
+            c.loop-left.invariant.piece,
+            c.min-room.ensures,
+          );
     }
 
 pub returns-in_err-read_no_more : goal.returns-in_err-read_no_more
