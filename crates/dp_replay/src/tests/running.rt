@@ -25,9 +25,12 @@ fn job(
     mode: &str,
     channel: &str,
 ) -> Result<String, Fail> {
-    let caps = r#""caps":"1214C481000000000000000000008000","extended":"141EC481000000000000000000008000""#;
+    let caps =
+        r#""caps":"1214C481000000000000000000008000","extended":"141EC481000000000000000000008000""#;
+    let link = format!(in alloc; "\"rate\":\"{rate}\",\"lanes\":{lanes}")?;
+    let model = format!(in alloc; "{{{caps},\"channel\":{{{channel}}}}}")?;
     let text = format!(in alloc;
-        "{{\"link\":{{\"rate\":\"{rate}\",\"lanes\":{lanes}}},\"mode\":{{{mode},\"depth\":8}},\"sink\":{{\"model\":{{{caps},\"channel\":{{{channel}}}}}}}}}"
+        "{{\"link\":{{{link}}},\"mode\":{{{mode},\"depth\":8}},\"sink\":{{\"model\":{model}}}}}"
     )?;
     Ok(text)
 }
@@ -68,7 +71,13 @@ fn frames_are_sent_over_the_link_that_was_asked_for(rt: HostRuntime) -> Result<(
 }
 
 /// The link asked for, the channel, the report, the status, and the sizes of the capture and of the sets.
-type Fallen = ((&'static str, u8), &'static str, &'static str, u8, (usize, usize));
+type Fallen = (
+    (&'static str, u8),
+    &'static str,
+    &'static str,
+    u8,
+    (usize, usize),
+);
 
 const FALLEN: [Fallen; 3] = [
     // the third lane never equalises at HBR2
@@ -235,7 +244,8 @@ fn a_frame_of_four_thousand_columns_is_sent(rt: HostRuntime) -> Result<(), Fail>
         pix: MemSink::new(rt.alloc(), 72_004_248, Vec::new(rt.alloc()))?,
         out: MemSink::new(rt.alloc(), 1024, Vec::new(rt.alloc()))?,
     };
-    let report = "trained HBR2 4 requests 10\nlane 0 swing 0 emphasis 0\nlane 1 swing 0 emphasis 0\n\
+    let report =
+        "trained HBR2 4 requests 10\nlane 0 swing 0 emphasis 0\nlane 1 swing 0 emphasis 0\n\
         lane 2 swing 0 emphasis 0\nlane 3 swing 0 emphasis 0\nlast 77 77 01 00 00 00\n\
         plan symbols 2880 n 12798000 m 17280000 unit 64 delay 24 end 3876 bound 28\n\
         sent frames 1 lines 2160 clocks 9000524\n";

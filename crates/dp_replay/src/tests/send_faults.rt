@@ -1,6 +1,8 @@
 //! The command `send` over objects in memory: pixels and calls that fail, and the two lanes' threads.
 
-use super::sending::{CALM, Fails, PIXELS, Stage, TWO_FRAMES, TWO_LANES, ends, job, pixels, status};
+use super::sending::{
+    CALM, Fails, PIXELS, Stage, TWO_FRAMES, TWO_LANES, ends, job, pixels, status,
+};
 use super::words;
 use dpx_base::{Gate, Pixel};
 use dpx_cli::replay_gated;
