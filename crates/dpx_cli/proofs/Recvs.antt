@@ -31,9 +31,9 @@ use Rattle.dpx_cli.specs.declared.stop.CaptureBad.TheVariants.{Header, Word, Set
 use Rattle.dpx_cli.specs.declared.stop.Stop.{Stop}
 use Rattle.dpx_cli.specs.declared.stop.Stop.TheVariants as stop
 use Rattle.dpx_cli.specs.Printing.{StopsAtOnce, CommandPrints}
-use Rattle.dpx_cli.specs.Receiving.{ReadsCapture, ReadsNoHeader, ReadsTooMuch, longest_capture}
-use Rattle.dpx_cli.specs.Recv.{CaptureHasFault, CaptureIsLong, CaptureIsRead, CaptureIsUnfinished, CaptureRefused, GivesBack, IsGoodCapture}
-use Rattle.dpx_cli.specs.Recv.{IsRecvStatus, IsSent, RecvCauses, RecvDoes, ReportsReceived, SaysCaptureRefused, SaysReadFault}
+use Rattle.dpx_cli.specs.Receiving.{ReadsNoHeader, longest_capture}
+use Rattle.dpx_cli.specs.Recv.{CaptureHasFault, CaptureIsRead, CaptureRefused, GivesBack, IsGoodCapture}
+use Rattle.dpx_cli.specs.Recv.{IsRecvStatus, IsSent, RecvCauses, RecvDoes, SaysCaptureRefused, SaysReadFault}
 use Rattle.dpx_cli.specs.Recv.{SaysReceived, StatusOfCapture, attributes_lines}
 use Rattle.dpx_cli.specs.Status.{IsClean}
 use Rattle.dpx_cli.specs.Step.{Step}

@@ -1,4 +1,4 @@
-use Rattle.std.proofs.Common.{◌≡◌, ◌≤◌, rules, arith, refl, sym, subst, length, drop, length-append, length-drop, ℕ, Ok, Err}
+use Rattle.std.proofs.Common.{◌≡◌, rules, arith, refl, sym, subst, drop, length-append, length-drop, ℕ, Ok}
 use Rattle.std.proofs.lemmas.List.{length-take}
 use Rattle.std.proofs.lemmas.Result.{err_from_is_err_and}
 use Rattle.dpx_base.specs.declared.link.Link.{Link}

@@ -1,4 +1,4 @@
-use Rattle.std.proofs.Common.{◌≡◌, ◌≤◌, length}
+use Rattle.std.proofs.Common.{◌≡◌, length}
 use Rattle.dpx_sink.specs.Receiver.{link_of}
 use Rattle.dpx_cli.specs.Receiving.{StillReceives}
 use Rattle.dpx_cli.specs.Step.{◌⇒◌}
