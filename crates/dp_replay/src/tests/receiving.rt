@@ -122,10 +122,11 @@ fn hears<R: Abort + Threads + Sync>(
     command: &str,
     capture: &[u8],
     hearing: Hearing,
-    (frames, last, status, lines): Wanted,
+    wanted: Wanted,
 ) -> Result<(), Fail>
     requires { 0 < hearing.step }
 {
+    let (frames, last, status, lines) = wanted;
     let heard = hear(rt, alloc, command, capture, hearing)?;
     let printed = report(alloc, frames, EIGHT, last)?;
     assert_eq!(rt;
