@@ -1,5 +1,7 @@
 //! The command `recv` over objects in memory: what is received of a capture that was sent, and of one that is damaged.
 
+ghost use Rattle.std.specs.Prelude.{◌<◌};
+
 use super::sending::{CALM, PIXELS, Stage, TWO_FRAMES, TWO_LANES, job, pixels, status};
 use super::words;
 use dpx_base::{MemPipe, MemSink, MemSource, write_pixel};
