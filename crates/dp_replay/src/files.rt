@@ -25,7 +25,7 @@ impl CommandFiles {
     /// Opens the files in the order of the words.
     pub fn open<R: Files<File = File>>(rt: &R, command: &Command) -> CommandFiles {
         match command {
-            Command::Train { job } | Command::Watch { job } => CommandFiles {
+            Command::Train { job } | Command::Edid { job } => CommandFiles {
                 src: FileSource::open(rt, job.as_str()),
                 ..CommandFiles::none()
             },
@@ -44,15 +44,6 @@ impl CommandFiles {
                 src: FileSource::open(rt, job.as_str()),
                 pipe: FilePipe::new(FileSource::open(rt, pixels.as_str())),
                 pix: FileSink::create(rt, capture.as_str()),
-            },
-            Command::Recv {
-                capture,
-                pixels,
-                ..
-            } => CommandFiles {
-                src: FileSource::open(rt, capture.as_str()),
-                pix: FileSink::create(rt, pixels.as_str()),
-                ..CommandFiles::none()
             },
         }
     }

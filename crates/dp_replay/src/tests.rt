@@ -11,17 +11,14 @@ use std::str;
 use std::test::Fail;
 use std::thread::Threads;
 
-mod by_table;
+mod displays;
 mod faults;
 mod histories;
-mod receive_faults;
-mod receiving;
 mod reports;
 mod running;
 mod send_faults;
 mod sending;
 mod walk;
-mod watching;
 
 /// A job with a modelled sink that has HBR3 in its extended field, four lanes and TPS4. Behind its
 /// capabilities stand more members of the model, or none.

@@ -14,7 +14,7 @@ use Rattle.dpx_align.specs.declared.align_bad.AlignBad.TheVariants.{BadWord, Not
 use Rattle.dpx_align.proofs.FirstFaults.{first_stays}
 use Rattle.dpx_align.proofs.LaneSymbols.{symbols_once}
 
-pub clock_once : (words : List (List ℕ)) (c d l m : ℕ) → FaultAt words c l → FaultAt words d m → c ≡ d
+clock_once : (words : List (List ℕ)) (c d l m : ℕ) → FaultAt words c l → FaultAt words d m → c ≡ d
 clock_once words c d l m a b =
     elim (cases_order c d) [
       | inl e ↦ e

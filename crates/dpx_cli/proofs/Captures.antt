@@ -105,7 +105,7 @@ abbrev pub Gives : (end this : DriveEnd) → Type 0
 Gives end this = ◌≡◌ {A = Result Sent DriveEnd} (Err end) (Err this)
 
 -- a count that rose behind one that was kept
-pub rose_behind : {before middle now : ℕ} → middle ≡ before → Rose middle now → Rose before now
+rose_behind : {before middle now : ℕ} → middle ≡ before → Rose middle now → Rose before now
 rose_behind {now = now} same rose = subst (λ (count : ℕ). Rose count now) same rose
 
 -- the pipe was begun anew and handed nothing, and nothing was taken

@@ -1,14 +1,12 @@
 pub mod Captures
+pub mod Edids
 pub mod Jobs
 pub mod LineSteps
 pub mod Modelled
 pub mod Printings
-pub mod Receivings
-pub mod Recvs
-pub mod Reportings
 pub mod Runs
 pub mod SendingCommands
 pub mod Sends
+pub mod SlotSteps
 pub mod Trainings
 pub mod Transfers
-pub mod Watches

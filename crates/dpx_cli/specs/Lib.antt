@@ -1,12 +1,11 @@
 pub mod Commands
 pub mod Digits
+pub mod Edid
+pub mod EdidLines
+pub mod Fetching
 pub mod Jobs
 pub mod Lines
 pub mod Printing
-pub mod Receiving
-pub mod Recv
-pub mod RecvLines
-pub mod Reporting
 pub mod Run
 pub mod Send
 pub mod SendLines
@@ -18,6 +17,3 @@ pub mod Stop
 pub mod Train
 pub mod Training
 pub mod Transfer
-pub mod Watch
-pub mod WatchLines
-pub mod Watching

@@ -7,19 +7,17 @@ use Rattle.dpx_files.specs.declared.refusal.JobBad.TheVariants as bad
 use Rattle.dpx_files.specs.Refusal.{field_name}
 use Rattle.dpx_source.specs.declared.sending.DriveEnd.{DriveEnd}
 use Rattle.dpx_source.specs.declared.sending.DriveEnd.TheVariants as drive
-use Rattle.dpx_cli.specs.declared.stop.CaptureBad.{CaptureBad}
-use Rattle.dpx_cli.specs.declared.stop.CaptureBad.TheVariants.{Header, Word, Set, Long, Unfinished}
 use Rattle.dpx_cli.specs.declared.stop.JobRefusal.{JobRefusal}
 use Rattle.dpx_cli.specs.declared.stop.JobRefusal.TheVariants.{TooLong, NotJson, Wrong}
 use Rattle.dpx_cli.specs.declared.stop.Stop.{Stop}
 use Rattle.dpx_cli.specs.declared.stop.Stop.TheVariants as stop
+use Rattle.dpx_cli.specs.EdidLines.{unfetched_line, bad_edid_line}
 use Rattle.dpx_cli.specs.Lines.{line_feed, train_report}
-use Rattle.dpx_cli.specs.RecvLines.{header_line, word_line, set_line, finish_line}
 use Rattle.dpx_cli.specs.SendLines.{unfit_line, bad_pixel_line, pixels_ended_line}
 
 abbrev pub usage_line : List ℕ
 usage_line =
-    codes "usage: dp_replay train JOB | send JOB PIXELS CAPTURE [one|lanes] | run JOB PIXELS CAPTURE [one|lanes] | recv CAPTURE PIXELS [one|lanes] | gen SEED [one|lanes] | watch JOB\n"
+    codes "usage: dp_replay train JOB | send JOB PIXELS CAPTURE [one|lanes] | run JOB PIXELS CAPTURE [one|lanes] | recv CAPTURE PIXELS [one|lanes] | gen SEED [one|lanes] | edid JOB\n"
 
 abbrev pub memory_line : List ℕ
 memory_line = codes "memory\n"
@@ -64,7 +62,8 @@ stop_status (stop.BadPixel number value) = 3
 stop_status (stop.PixelsEnded number) = 3
 stop_status (stop.Untrained end) = 4
 stop_status (stop.Unfit why) = 5
-stop_status (stop.Capture why) = 6
+stop_status (stop.Unfetched end) = 4
+stop_status (stop.BadEdid why requests) = 13
 stop_status stop.ReadFault = 7
 stop_status stop.WriteFault = 8
 stop_status stop.OutFault = 8
@@ -76,22 +75,16 @@ job_line TooLong = codes "job too long\n"
 job_line NotJson = codes "job not json\n"
 job_line (Wrong field) = codes "job wrong " ++ field_name field ++ line_feed
 
-abbrev pub capture_line : CaptureBad → List ℕ
-capture_line (Header count) = header_line count
-capture_line (Word bad) = word_line bad
-capture_line (Set bad) = set_line bad
-capture_line Long = codes "capture long\n"
-capture_line (Unfinished end) = finish_line end
-
 -- the lines that are printed behind what was printed before; where the report itself failed there are none
 abbrev pub stop_lines : Stop → List ℕ
 stop_lines stop.Usage = usage_line
 stop_lines (stop.Job why) = job_line why
 stop_lines (stop.Untrained end) = train_report end
 stop_lines (stop.Unfit why) = unfit_line why
+stop_lines (stop.Unfetched end) = unfetched_line end
+stop_lines (stop.BadEdid why requests) = bad_edid_line why requests
 stop_lines (stop.BadPixel number value) = bad_pixel_line number value
 stop_lines (stop.PixelsEnded number) = pixels_ended_line number
-stop_lines (stop.Capture why) = capture_line why
 stop_lines stop.ReadFault = read_fault_line
 stop_lines stop.WriteFault = write_fault_line
 stop_lines stop.PipeFault = pipe_fault_line

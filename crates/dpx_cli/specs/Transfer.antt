@@ -1,21 +1,16 @@
 -- Whole reads and whole writes: this project's own.
-use Rattle.std.specs.Prelude.{◌≡◌, ℕ, ◌<◌, ◌≤◌, List, ◌++◌, length, Option}
+use Rattle.std.specs.Prelude.{◌≡◌, ℕ, ◌+◌, ◌≤◌, List, ◌++◌, length, Option}
 use Rattle.std.specs.Io.KnownBytes.{Appends, Consumes, IsAtEnd}
 use Rattle.dpx_base.specs.Faults.{Rose}
 use Rattle.dpx_base.specs.Seen.{SinkSeen}
+use Rattle.dpx_files.specs.Job.{longest_job}
 use Rattle.dpx_cli.specs.Step.{Step}
 
--- The bytes were read to the end of the input; or they are as many as were wanted at most.
-pub record ReadsUpTo (most : ℕ) (before now : Option (List ℕ)) (bytes : List ℕ) : Type 0 where
+-- The bytes were read to the end of the input; or they are one more than a job may have.
+pub record ReadsWhole (before now : Option (List ℕ)) (bytes : List ℕ) : Type 0 where
   pub consumed : Consumes before now bytes
-  pub bounded : length bytes ≤ most
-  pub at_end : length bytes < most → IsAtEnd now
-
--- fewer bytes were read
-pub record ReadsFewer (most : ℕ) (before now : Option (List ℕ)) : Type 0 where
-  pub bytes : List ℕ
-  pub consumed : Consumes before now bytes
-  pub fewer : length bytes < most
+  pub bounded : length bytes ≤ longest_job + 1
+  pub at_end : length bytes ≤ longest_job → IsAtEnd now
 
 -- this text was written whole, and no write failed
 pub record Prints (out : Step SinkSeen) (text : List ℕ) : Type 0 where

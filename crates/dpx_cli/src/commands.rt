@@ -1,47 +1,39 @@
-ghost use Rattle.std.specs.Prelude.{◌≡◌, ◌≢◌, ◌⊎◌, ◌+◌, ◌*◌, ◌≤◌, None, IsSome, IsSomeAnd};
+ghost use Rattle.std.specs.Prelude.{◌≡◌, ◌≢◌, ◌⊎◌, ◌+◌, ◌≤◌, None, IsSome, IsSomeAnd};
 ghost use Rattle.dpx_base.specs.Faults.{Rose};
-ghost use Rattle.dpx_files.specs.Events.{most_events};
 ghost use Rattle.dpx_link.specs.Training.{training_entries};
-ghost use Rattle.dpx_watch.specs.Step.{step_entries};
 ghost use Rattle.dpx_words.specs.Reading.{command_in};
 ghost use Rattle.dpx_cli.specs.declared.stop.Stop.{Stop};
-ghost use Rattle.dpx_cli.specs.Commands.{IsTrain, IsSend, IsRun, IsRecv, IsWatch};
+ghost use Rattle.dpx_cli.specs.Commands.{IsTrain, IsSend, IsRun, IsEdid};
+ghost use Rattle.dpx_cli.specs.Edid.{EdidDoes};
 ghost use Rattle.dpx_cli.specs.Printing.{StopsAtOnce};
-ghost use Rattle.dpx_cli.specs.Recv.{RecvDoes};
 ghost use Rattle.dpx_cli.specs.Run.{RunDoes};
 ghost use Rattle.dpx_cli.specs.Send.{SendDoes};
 ghost use Rattle.dpx_cli.specs.Status.{IsExitStatus, IsClean, Means};
 ghost use Rattle.dpx_cli.specs.Step.{◌⇒◌};
-ghost use Rattle.dpx_cli.specs.Watch.{WatchDoes};
 ghost use Rattle.dpx_cli.specs.Train.{SaysTrained, TrainDoes};
 ghost use Rattle.dpx_cli.specs.Transfer.{Prints, PrintsFirst};
 
+use crate::edid::edid;
 use crate::printing::print_stop;
-use crate::recv::recv;
 use crate::run::run;
 use crate::send::send;
 use crate::stop::Stop;
 use crate::train::train;
-use crate::watch::watch;
 use dpx_base::{Gate, NoGate, Pipe, Sink, Source};
 use dpx_dpcd::LoadPort;
-use dpx_files::headers_come_back;
 use dpx_lane::a_capture_is_one;
-use dpx_reception::{captures_are_received, faults_stay, one_reception};
-use dpx_sink::{a_capture_is_received, one_end};
 use dpx_words::{Command, WordsEnd, read_words};
 use std::alloc::Global;
 use std::thread::Threads;
 
 /// Does what the words of the command line ask for: `words` are those without the program's name. The job comes from
-/// `src`, or a capture that is received; the pixels to be sent come from `pipe`; a sink is loaded into `aux`; a capture
-/// that is sent goes to `pix`, or the pixels that are received; the report to `out`. The result is the exit status:
+/// `src`, the pixels from `pipe`, a sink is loaded into `aux`, a capture goes to `pix`, the report to `out`. The result
+/// is the exit status:
 ///
 /// * 0: all was done
 /// * 2: the words have no reading; 3: the job has none, or a pixel is out of range, or pixels are missing
 /// * 4: not trained, capabilities refused, or an AUX transaction failed; 5: the mode does not fit the link
-/// * 6: the capture is refused
-/// * 7: a read failed; 8: a write failed; 9: the pipe failed; 10: want of memory
+/// * 7: a read failed; 8: a write failed; 9: the pipe failed; 10: want of memory; 13: a base block is refused
 pub fn replay<S: Source, T: Pipe, P: LoadPort, O: Sink, R: Threads + Sync>(
     rt: &R,
     alloc: Global,
@@ -54,19 +46,13 @@ pub fn replay<S: Source, T: Pipe, P: LoadPort, O: Sink, R: Threads + Sync>(
 ) -> u8
     // Whatever is answered: training asks at most 3,104 AUX requests, over all of the call, and trained is said only
     // where the last status shows every lane in use done. A port that surely tells as many entries as a training has
-    // tells its history to the end. A supervisor asks at most 3,120 an event, of 64 events at most.
-    ensures bounded { (IsSomeAnd (command_in words.now) IsWatch → ⊥)
-        → (P.state aux.new).asked_in_all ≤ (P.state aux.old).asked_in_all + 3104 }
-    ensures watch_bounded { IsSomeAnd (command_in words.now) IsWatch
-        → (P.state aux.new).asked_in_all ≤ (P.state aux.old).asked_in_all + 64 * 3120 }
+    // tells its history to the end.
+    ensures bounded { (P.state aux.new).asked_in_all ≤ (P.state aux.old).asked_in_all + 3104 }
     ensures trained { IsSomeAnd (command_in words.now) IsTrain → result ≡ 0
         → SaysTrained (P.state aux.new) (Prints (O.seen out.old ⇒ O.seen out.new)) }
     ensures run_trained { IsSomeAnd (command_in words.now) IsRun → result ≡ 0
         → SaysTrained (P.state aux.new) (PrintsFirst (O.seen out.old ⇒ O.seen out.new)) }
-    ensures told { (IsSomeAnd (command_in words.now) IsWatch → ⊥) → training_entries ≤ P.surely_told
-        → (aux.new ≡ aux.old) ⊎ IsSome (P.state aux.new).history }
-    ensures watch_told { IsSomeAnd (command_in words.now) IsWatch → most_events * step_entries ≤ P.surely_told
-        → (aux.new ≡ aux.old) ⊎ IsSome (P.state aux.new).history }
+    ensures told { training_entries ≤ P.surely_told → (aux.new ≡ aux.old) ⊎ IsSome (P.state aux.new).history }
 
     // There is no other status. A fault comes only where its object counted one, and none that was counted is passed
     // over.
@@ -100,12 +86,9 @@ pub fn replay<S: Source, T: Pipe, P: LoadPort, O: Sink, R: Threads + Sync>(
         (P.state aux.old ⇒ P.state aux.new) (aux.new ≡ aux.old) (T.state pipe.old ⇒ T.state pipe.new)
         (O.seen pix.old ⇒ O.seen pix.new) ((pipe.new ≡ pipe.old) × (pix.new ≡ pix.old))
         (O.seen out.old ⇒ O.seen out.new) result }
-    ensures recv { IsSomeAnd (command_in words.now) IsRecv → RecvDoes (S.seen src.old ⇒ S.seen src.new)
-        (O.seen pix.old ⇒ O.seen pix.new) (pix.new ≡ pix.old) (O.seen out.old ⇒ O.seen out.new) result }
-    ensures recv_keeps { IsSomeAnd (command_in words.now) IsRecv → (pipe.new ≡ pipe.old) × (aux.new ≡ aux.old) }
-    ensures watch { IsSomeAnd (command_in words.now) IsWatch → WatchDoes (S.seen src.old ⇒ S.seen src.new)
+    ensures edid { IsSomeAnd (command_in words.now) IsEdid → EdidDoes (S.seen src.old ⇒ S.seen src.new)
         (P.state aux.old ⇒ P.state aux.new) (aux.new ≡ aux.old) (O.seen out.old ⇒ O.seen out.new) result }
-    ensures watch_keeps { IsSomeAnd (command_in words.now) IsWatch → (pipe.new ≡ pipe.old) × (pix.new ≡ pix.old) }
+    ensures edid_keeps { IsSomeAnd (command_in words.now) IsEdid → (pipe.new ≡ pipe.old) × (pix.new ≡ pix.old) }
 {
     replay_gated(rt, alloc, words, src, pipe, aux, pix, out, &NoGate)
 }
@@ -124,19 +107,13 @@ pub fn replay_gated<S: Source, T: Pipe, P: LoadPort, O: Sink, G: Gate, R: Thread
 ) -> u8
     // Whatever is answered: training asks at most 3,104 AUX requests, over all of the call, and trained is said only
     // where the last status shows every lane in use done. A port that surely tells as many entries as a training has
-    // tells its history to the end. A supervisor asks at most 3,120 an event, of 64 events at most.
-    ensures bounded { (IsSomeAnd (command_in words.now) IsWatch → ⊥)
-        → (P.state aux.new).asked_in_all ≤ (P.state aux.old).asked_in_all + 3104 }
-    ensures watch_bounded { IsSomeAnd (command_in words.now) IsWatch
-        → (P.state aux.new).asked_in_all ≤ (P.state aux.old).asked_in_all + 64 * 3120 }
+    // tells its history to the end.
+    ensures bounded { (P.state aux.new).asked_in_all ≤ (P.state aux.old).asked_in_all + 3104 }
     ensures trained { IsSomeAnd (command_in words.now) IsTrain → result ≡ 0
         → SaysTrained (P.state aux.new) (Prints (O.seen out.old ⇒ O.seen out.new)) }
     ensures run_trained { IsSomeAnd (command_in words.now) IsRun → result ≡ 0
         → SaysTrained (P.state aux.new) (PrintsFirst (O.seen out.old ⇒ O.seen out.new)) }
-    ensures told { (IsSomeAnd (command_in words.now) IsWatch → ⊥) → training_entries ≤ P.surely_told
-        → (aux.new ≡ aux.old) ⊎ IsSome (P.state aux.new).history }
-    ensures watch_told { IsSomeAnd (command_in words.now) IsWatch → most_events * step_entries ≤ P.surely_told
-        → (aux.new ≡ aux.old) ⊎ IsSome (P.state aux.new).history }
+    ensures told { training_entries ≤ P.surely_told → (aux.new ≡ aux.old) ⊎ IsSome (P.state aux.new).history }
 
     // There is no other status. A fault comes only where its object counted one, and none that was counted is passed
     // over.
@@ -170,28 +147,18 @@ pub fn replay_gated<S: Source, T: Pipe, P: LoadPort, O: Sink, G: Gate, R: Thread
         (P.state aux.old ⇒ P.state aux.new) (aux.new ≡ aux.old) (T.state pipe.old ⇒ T.state pipe.new)
         (O.seen pix.old ⇒ O.seen pix.new) ((pipe.new ≡ pipe.old) × (pix.new ≡ pix.old))
         (O.seen out.old ⇒ O.seen out.new) result }
-    ensures recv { IsSomeAnd (command_in words.now) IsRecv → RecvDoes (S.seen src.old ⇒ S.seen src.new)
-        (O.seen pix.old ⇒ O.seen pix.new) (pix.new ≡ pix.old) (O.seen out.old ⇒ O.seen out.new) result }
-    ensures recv_keeps { IsSomeAnd (command_in words.now) IsRecv → (pipe.new ≡ pipe.old) × (aux.new ≡ aux.old) }
-    ensures watch { IsSomeAnd (command_in words.now) IsWatch → WatchDoes (S.seen src.old ⇒ S.seen src.new)
+    ensures edid { IsSomeAnd (command_in words.now) IsEdid → EdidDoes (S.seen src.old ⇒ S.seen src.new)
         (P.state aux.old ⇒ P.state aux.new) (aux.new ≡ aux.old) (O.seen out.old ⇒ O.seen out.new) result }
-    ensures watch_keeps { IsSomeAnd (command_in words.now) IsWatch → (pipe.new ≡ pipe.old) × (pix.new ≡ pix.old) }
+    ensures edid_keeps { IsSomeAnd (command_in words.now) IsEdid → (pipe.new ≡ pipe.old) × (pix.new ≡ pix.old) }
 {
     a_capture_is_one();
-    headers_come_back();
-    one_end();
-    one_reception();
-    faults_stay();
-    captures_are_received();
-    a_capture_is_received();
     match read_words(alloc, words) {
         Ok(Command::Train { .. }) => train(alloc, src, aux, out),
         Ok(Command::Send { workers, .. }) => { send(rt, alloc, src, pipe, pix, out, workers, gate) }
         Ok(Command::Run { workers, .. }) => {
             run(rt, alloc, src, pipe, aux, pix, out, workers, gate)
         }
-        Ok(Command::Recv { workers, .. }) => recv(rt, alloc, src, pix, out, workers, gate),
-        Ok(Command::Watch { .. }) => watch(alloc, src, aux, out),
+        Ok(Command::Edid { .. }) => edid(alloc, src, aux, out),
         Err(WordsEnd::Usage) => print_stop(alloc, out, &Stop::Usage),
         Err(WordsEnd::Memory) => print_stop(alloc, out, &Stop::NoMemory),
     }

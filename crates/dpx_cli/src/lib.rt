@@ -1,20 +1,20 @@
 //! The commands of dp_replay: their words, their reports, and the top call.
 //!
 //! * `commands`: the top call, which finds the command in the words
-//! * `train`, `send`, `run`, `recv`: the commands of these names
-//! * `job`, `training`, `sending`, `receiving`: steps of commands
+//! * `train`, `send`, `run`, `edid`: the commands of these names
+//! * `job`, `training`, `sending`, `fetching`: steps that commands share
 //! * `transfer`: whole reads, whole writes
 //! * `stop`, `printing`: why a command stops, what is printed and with which status it ends
-//! * `report`, `lines`, `send_lines`, `recv_lines`: the text of a report as it grows, and its lines
+//! * `report`, `lines`, `send_lines`: the text of a report as it grows, and its lines
 #![tactic(auto)]
 
 mod commands;
+mod edid;
+mod edid_lines;
+mod fetching;
 mod job;
 mod lines;
 mod printing;
-mod receiving;
-mod recv;
-mod recv_lines;
 mod report;
 mod run;
 mod send;
@@ -24,9 +24,6 @@ mod stop;
 mod train;
 mod training;
 mod transfer;
-mod watch;
-mod watch_lines;
-mod watching;
 
 pub use commands::{replay, replay_gated};
 pub use dpx_words::{Command, Name, WordsEnd, read_words};

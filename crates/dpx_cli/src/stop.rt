@@ -1,15 +1,13 @@
 ghost use Rattle.std.specs.Prelude.{◌≡◌, ◌++◌, OnOk};
-ghost use Rattle.dpx_cli.specs.Stop.{stop_lines, stop_status, job_line, capture_line, stop_of_job};
+ghost use Rattle.dpx_cli.specs.Stop.{stop_lines, stop_status, job_line, stop_of_job};
 
+use crate::edid_lines::{push_bad_edid, push_unfetched};
 use crate::lines::push_train_end;
-use crate::recv_lines::{push_bad_set, push_bad_word, push_finish_end, push_header};
 use crate::report::Report;
 use crate::send_lines::{push_bad_pixel, push_pixels_ended, push_unfit};
-use dpx_align::AlignBad;
+use dpx_edid::{EdidBad, FetchEnd};
 use dpx_files::{Field, JobBad};
 use dpx_link::TrainEnd;
-use dpx_parse::ParseBad;
-use dpx_sink::FinishEnd;
 use dpx_timing::Unfit;
 use std::alloc::AllocError;
 
@@ -19,20 +17,6 @@ pub(crate) enum JobRefusal {
     TooLong,
     NotJson,
     Wrong(Field),
-}
-
-/// Why a capture is refused.
-#[derive(Clone, Copy, Debug, PartialEq, Eq)]
-pub(crate) enum CaptureBad {
-    /// So many bytes were read, and they are no header.
-    Header(u8),
-    /// Its first fault: a word, or a set.
-    Word(AlignBad),
-    Set(ParseBad),
-    /// It is longer than a capture may be.
-    Long,
-    /// It has no fault, and ends within a clock or has no lock.
-    Unfinished(FinishEnd),
 }
 
 /// Why a command stops before all was done.
@@ -45,11 +29,14 @@ pub(crate) enum Stop {
     Untrained(TrainEnd),
     /// The mode does not fit the link.
     Unfit(Unfit),
+    /// No base block was fetched.
+    Unfetched(FetchEnd),
+    /// A base block is refused, which was fetched with so many requests.
+    BadEdid { why: EdidBad, requests: u32 },
     /// This pixel, counted over all frames, has this component out of range.
     BadPixel { number: u64, value: u16 },
     /// The pipe holds so many pixels, and a further one is due.
     PixelsEnded(u64),
-    Capture(CaptureBad),
     ReadFault,
     /// A write of the capture, or of the pixels, failed.
     WriteFault,
@@ -60,7 +47,7 @@ pub(crate) enum Stop {
 }
 
 const USAGE: &str =
-    "usage: dp_replay train JOB | send JOB PIXELS CAPTURE [one|lanes] | run JOB PIXELS CAPTURE [one|lanes] | recv CAPTURE PIXELS [one|lanes] | gen SEED [one|lanes] | watch JOB\n";
+    "usage: dp_replay train JOB | send JOB PIXELS CAPTURE [one|lanes] | run JOB PIXELS CAPTURE [one|lanes] | recv CAPTURE PIXELS [one|lanes] | gen SEED [one|lanes] | edid JOB\n";
 
 pub(crate) const MEMORY: &str = "memory\n";
 
@@ -97,12 +84,13 @@ impl Stop {
             Stop::Job(_) => 3,
             Stop::BadPixel { .. } | Stop::PixelsEnded(_) => 3,
             Stop::Untrained(_) => 4,
+            Stop::Unfetched(_) => 4,
             Stop::Unfit(_) => 5,
-            Stop::Capture(_) => 6,
             Stop::ReadFault => 7,
             Stop::WriteFault | Stop::OutFault => 8,
             Stop::PipeFault => 9,
             Stop::NoMemory => 10,
+            Stop::BadEdid { .. } => 13,
         }
     }
 
@@ -115,9 +103,10 @@ impl Stop {
             Stop::Job(why) => push_job(report, why),
             Stop::Untrained(end) => push_train_end(report, end),
             Stop::Unfit(why) => push_unfit(report, *why),
+            Stop::Unfetched(end) => push_unfetched(report, *end),
+            Stop::BadEdid { why, requests } => push_bad_edid(report, *why, *requests),
             Stop::BadPixel { number, value } => push_bad_pixel(report, *number, *value),
             Stop::PixelsEnded(number) => push_pixels_ended(report, *number),
-            Stop::Capture(why) => push_capture(report, *why),
             Stop::ReadFault => report.push("read fault\n"),
             Stop::WriteFault => report.push("write fault\n"),
             Stop::PipeFault => report.push("pipe fault\n"),
@@ -138,17 +127,5 @@ fn push_job(report: &mut Report, why: &JobRefusal) -> Result<(), AllocError>
             report.push(field.name())?;
             report.push("\n")
         }
-    }
-}
-
-fn push_capture(report: &mut Report, why: CaptureBad) -> Result<(), AllocError>
-    ensures { OnOk result (report.new ≡ report.old ++ capture_line why) }
-{
-    match why {
-        CaptureBad::Header(count) => push_header(report, count),
-        CaptureBad::Word(bad) => push_bad_word(report, bad),
-        CaptureBad::Set(bad) => push_bad_set(report, bad),
-        CaptureBad::Long => report.push("capture long\n"),
-        CaptureBad::Unfinished(end) => push_finish_end(report, end),
     }
 }

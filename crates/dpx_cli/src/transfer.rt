@@ -2,35 +2,34 @@ ghost use Rattle.std.specs.Prelude.{◌≡◌, ◌≢◌, IfOk, OnOk, OnErr};
 ghost use Rattle.dpx_base.specs.Faults.{Rose};
 ghost use Rattle.dpx_cli.specs.declared.transfer.ReadEnd.{ReadEnd};
 ghost use Rattle.dpx_cli.specs.Step.{◌⇒◌};
-ghost use Rattle.dpx_cli.specs.Transfer.{ReadsFewer, ReadsUpTo, Prints, PrintsFront};
+ghost use Rattle.dpx_cli.specs.Transfer.{ReadsWhole, Prints, PrintsFront};
 
 use dpx_base::{Failed, Sink, Source, write_whole};
+use dpx_files::LONGEST_JOB;
 use std::alloc::Global;
 
-/// Why not all was read.
+/// Why a job was not read.
 #[derive(Clone, Copy, Debug, PartialEq, Eq)]
 pub(crate) enum ReadEnd {
     Fault,
     Memory,
 }
 
+/// One byte more than a job has at most.
+const READ_AT_MOST: usize = LONGEST_JOB + 1;
+
 const PIECE: usize = 4096;
 
-/// Reads to the end, or `most` bytes; then no further read is made.
-pub(crate) fn read_at_most<S: Source>(
-    alloc: Global,
-    src: &mut S,
-    most: usize,
-) -> Result<Vec<u8>, ReadEnd>
-    ensures whole { IfOk result (λ bytes. ReadsUpTo most (S.seen src.old).left (S.seen src.new).left bytes.items) }
-    ensures part { result ≡ Err ReadEnd.Fault → ReadsFewer most (S.seen src.old).left (S.seen src.new).left }
+/// Reads to the end, or so far that the bytes are too long for a job; then no further read is made.
+pub(crate) fn read_whole<S: Source>(alloc: Global, src: &mut S) -> Result<Vec<u8>, ReadEnd>
+    ensures whole { IfOk result (λ bytes. ReadsWhole (S.seen src.old).left (S.seen src.new).left bytes.items) }
     ensures calm { result ≢ Err ReadEnd.Fault → (S.seen src.new).faults ≡ (S.seen src.old).faults }
     ensures fault { result ≡ Err ReadEnd.Fault → Rose (S.seen src.old).faults (S.seen src.new).faults }
 {
     let mut bytes = Vec::new(alloc);
     let mut piece = [0; PIECE];
-    while bytes.len() < most {
-        let room = PIECE.min(most - bytes.len());
+    while bytes.len() < READ_AT_MOST {
+        let room = PIECE.min(READ_AT_MOST - bytes.len());
         let Ok(count) = src.read(&mut piece[..room]) else {
             return Err(ReadEnd::Fault);
         };

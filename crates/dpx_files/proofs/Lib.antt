@@ -1,4 +1,4 @@
-pub mod ItemsRead
+pub mod Answers
 pub mod Depths
 pub mod Fitting
 pub mod Generated

@@ -1,11 +1,8 @@
 pub mod Channel
-pub mod Entries
-pub mod Events
 pub mod GenPipe
 pub mod GenPipeFields
 pub mod Generator
 pub mod Header
-pub mod Items
 pub mod Job
 pub mod Laws
 pub mod LinkFields

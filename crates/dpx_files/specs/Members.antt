@@ -42,10 +42,6 @@ if_object value = if is_some (as_object value) then Some value else None
 abbrev pub object_in : Field → Option Data → Result Data Field
 object_in field member = wanted field (option_and_then if_object member)
 
--- a member that has to be there
-abbrev pub member : Field → Data → Result Data Field
-member field parent = wanted field (get (field_name field) parent)
-
 -- a member that may be absent, and then has this value; where it is there, as null too, it has to be right
 abbrev pub or_default : {A : Type 0} → Field → (Data → Option A) → A → Option Data → Result A Field
 or_default field reads value None = Ok value

@@ -4,7 +4,7 @@ use Rattle.dpx_files.specs.declared.refusal.Field.{Field}
 use Rattle.dpx_files.specs.declared.refusal.Field.TheVariants.{Root, Link, Rate, Lanes, Enhanced, Mode, Width}
 use Rattle.dpx_files.specs.declared.refusal.Field.TheVariants.{Height, Htotal, Vtotal, Hsw, Hstart, Vsw, Vstart}
 use Rattle.dpx_files.specs.declared.refusal.Field.TheVariants.{Hsp, Vsp, Clock, Depth, Frames, Unit, Sink}
-use Rattle.dpx_files.specs.declared.refusal.Field.TheVariants.{Script, Model, Caps, Extended, Defers, Channel, Events, Entries}
+use Rattle.dpx_files.specs.declared.refusal.Field.TheVariants.{Script, Model, Caps, Extended, Defers, Channel}
 use Rattle.dpx_files.specs.declared.refusal.JobBad.{JobBad}
 use Rattle.dpx_files.specs.declared.refusal.JobBad.TheVariants.{Wrong, Memory}
 
@@ -37,8 +37,6 @@ field_name Caps = codes "caps"
 field_name Extended = codes "extended"
 field_name Defers = codes "defers"
 field_name Channel = codes "channel"
-field_name Events = codes "events"
-field_name Entries = codes "entries"
 
 -- one reading, and behind it the next; the first field that is wrong stands
 infixl 10 ◌>>=◌

@@ -1,5 +1,5 @@
 -- A script of answers: this project's own.
-use Rattle.std.specs.Prelude.{ℕ, nat_le, if◌then◌else◌, List, length, codes, Option, Some, None, option_map}
+use Rattle.std.specs.Prelude.{ℕ, nat_le, if◌then◌else◌, List, [], ◌∷◌, length, codes, Option, Some, None, option_map}
 use Rattle.std.specs.Prelude.{option_and_then, Result}
 use Rattle.std.specs.Result.{result_ok}
 use Rattle.std.specs.Str.{bytes_eq}
@@ -10,7 +10,8 @@ use Rattle.dpx_base.specs.declared.aux_port.Answer.{Answer}
 use Rattle.dpx_base.specs.declared.aux_port.Answer.TheVariants.{Silent, Bytes}
 use Rattle.dpx_files.specs.declared.refusal.Field.{Field}
 use Rattle.dpx_files.specs.declared.refusal.Field.TheVariants as field
-use Rattle.dpx_files.specs.Items.{items_of}
+use Rattle.dpx_files.specs.Refusal.{wanted}
+use Rattle.dpx_files.specs.Members.{elements}
 
 -- how many answers a script has at most
 abbrev pub most_answers : ℕ
@@ -28,6 +29,16 @@ answer_from text = if bytes_eq text (codes "s") then Some Silent else option_map
 abbrev pub answer_of : Data → Option Answer
 answer_of value = option_and_then answer_from (as_str value)
 
+-- every value is an answer
+abbrev pub answers_of : List Data → Option (List Answer)
+answers_of [] = Some []
+answers_of (value ∷ values) =
+    option_and_then (λ answer. option_map (λ answers. answer ∷ answers) (answers_of values)) (answer_of value)
+
+-- few enough of them
+abbrev pub few_answers : List Data → Option (List Answer)
+few_answers values = if nat_le (length values) most_answers then answers_of values else None
+
 -- `script`: a list of at most so many answers
 unfoldable pub script_of : Data → Result (List Answer) Field
-script_of = items_of field.Script most_answers answer_of
+script_of script = wanted field.Script (option_and_then few_answers (elements script))

@@ -1,22 +1,20 @@
-ghost use Rattle.std.specs.Prelude.{◌≡◌, ◌<◌, ◌≤◌, ◌↔◌, length, None, IfOk, IfSome, IsErr, IsErrOf};
+ghost use Rattle.std.specs.Prelude.{◌≡◌, ◌<◌, ◌↔◌, length, None, IfOk, IfSome, IsErr, IsErrOf};
 ghost use Rattle.serde_json.specs.View.{view};
 ghost use Rattle.dpx_dpcd.specs.Model.{IsPlan};
-ghost use Rattle.dpx_files.specs.Job.{reading, job_of, train_of, send_of, run_of, watch_of, judge_of, sink_of, longest_job};
-ghost use Rattle.dpx_files.specs.Job.{plan_asked, shape_asked, events_asked, need_of, IsJob};
-ghost use Rattle.dpx_files.specs.Events.{most_events};
+ghost use Rattle.dpx_files.specs.Job.{reading, job_of, train_of, send_of, run_of, edid_of, sink_of};
+ghost use Rattle.dpx_files.specs.Job.{longest_job};
+ghost use Rattle.dpx_files.specs.Job.{plan_asked, shape_asked, need_of, IsJob};
 ghost use Rattle.dpx_files.specs.Members.{json_of};
 ghost use Rattle.dpx_files.specs.Refusal.{GivesUnlessMemory, refused};
 ghost use Rattle.dpx_files.specs.Shape.{IsShape};
 
-use crate::entries::read_entries;
-use crate::events::read_events;
 use crate::link_fields::read_link;
-use crate::members::{member, object_in, read_value};
+use crate::members::{object_in, read_value};
 use crate::model::read_model;
 use crate::script::read_script;
 use crate::shape::read_shape;
 use crate::{Field, JobBad, Shape};
-use dpx_base::{EntryList, EventList, Link};
+use dpx_base::Link;
 use dpx_dpcd::SinkPlan;
 use serde_json::Value;
 use std::alloc::Global;
@@ -27,8 +25,7 @@ pub enum Need {
     Train,
     Send,
     Run,
-    Watch,
-    Judge,
+    Edid,
 }
 
 /// What a job asks for.
@@ -50,17 +47,8 @@ pub enum Job {
         shape: Shape,
         sink: SinkPlan,
     },
-    /// Supervise this link with this sink through these events.
-    Watch {
-        link: Link,
-        sink: SinkPlan,
-        events: EventList,
-    },
-    /// Judge whether this history is a training of this link.
-    Judge {
-        link: Link,
-        entries: EntryList,
-    },
+    /// Fetch the EDID of this sink.
+    Edid { sink: SinkPlan },
 }
 
 /// How many bytes a job has at most.
@@ -77,7 +65,6 @@ pub fn read_job(alloc: Global, bytes: &[u8], need: Need) -> Result<Job, JobBad>
     ensures only_json { json_of bytes.now ≡ None → IsErr result }
     ensures plan { IfOk result (λ job. IfSome (plan_asked job) IsPlan) }
     ensures shape { IfOk result (λ job. IfSome (shape_asked job) IsShape) }
-    ensures events { IfOk result (λ job. IfSome (events_asked job) (λ events. length events ≤ most_events)) }
     ensures kind { IfOk result (λ job. need_of job ≡ need) }
 {
     if bytes.len() > LONGEST_JOB {
@@ -96,8 +83,7 @@ fn job_of(alloc: Global, value: &Value, need: Need) -> Result<Job, JobBad>
         Need::Train => train_job(alloc, value),
         Need::Send => Ok(send_job(value)?),
         Need::Run => run_job(alloc, value),
-        Need::Watch => watch_job(alloc, value),
-        Need::Judge => judge_job(alloc, value),
+        Need::Edid => edid_job(alloc, value),
     }
 }
 
@@ -139,29 +125,15 @@ fn run_job(alloc: Global, value: &Value) -> Result<Job, JobBad>
     Ok(Job::Run { link, shape, sink })
 }
 
-#[tactic(auto, unfolding(crate::specs::Job::watch_of))]
-fn watch_job(alloc: Global, value: &Value) -> Result<Job, JobBad>
-    ensures exact { GivesUnlessMemory (refused (watch_of (view value.now))) result }
+#[tactic(auto, unfolding(crate::specs::Job::edid_of))]
+fn edid_job(alloc: Global, value: &Value) -> Result<Job, JobBad>
+    ensures exact { GivesUnlessMemory (refused (edid_of (view value.now))) result }
     ensures good { IfOk result IsJob }
-    ensures kind { IfOk result (λ job. need_of job ≡ Need.Watch) }
+    ensures kind { IfOk result (λ job. need_of job ≡ Need.Edid) }
 {
     let root = object_in(Field::Root, Some(value))?;
-    let link = read_link(root)?;
     let sink = read_sink(alloc, root)?;
-    let events = read_events(alloc, member(Field::Events, root)?)?;
-    Ok(Job::Watch { link, sink, events })
-}
-
-#[tactic(auto, unfolding(crate::specs::Job::judge_of))]
-fn judge_job(alloc: Global, value: &Value) -> Result<Job, JobBad>
-    ensures exact { GivesUnlessMemory (refused (judge_of (view value.now))) result }
-    ensures good { IfOk result IsJob }
-    ensures kind { IfOk result (λ job. need_of job ≡ Need.Judge) }
-{
-    let root = object_in(Field::Root, Some(value))?;
-    let link = read_link(root)?;
-    let entries = read_entries(alloc, member(Field::Entries, root)?)?;
-    Ok(Job::Judge { link, entries })
+    Ok(Job::Edid { sink })
 }
 
 #[tactic(auto, unfolding(crate::specs::Job::sink_of))]

@@ -4,8 +4,7 @@
 //! * `members`: the members of a JSON value, as fields want them
 //! * `link_fields`: the link that a job asks for
 //! * `mode_fields`, `shape`: the mode that a job sends, its frames and its transfer unit
-//! * `items`: lists of a job; `script`: a sink that answers from a list; `events`, `entries`: what a supervisor and a
-//!   judge take
+//! * `script`: a sink that answers from a list
 //! * `model`, `channel`: a sink with registers, and its channel
 //! * `job`: a whole job
 //! * `header`: the first bytes of a capture
@@ -14,12 +13,9 @@
 #![tactic(auto)]
 
 mod channel;
-mod entries;
-mod events;
 mod gen_pipe;
 mod generator;
 mod header;
-mod items;
 mod job;
 mod laws;
 mod link_fields;

@@ -1,6 +1,6 @@
 ghost use Rattle.std.specs.Prelude.{◌≡◌, ◌≤◌, ◌⊎◌, Some, None, map, option_map, IfOk, IfSome, MatchResult};
 ghost use Rattle.serde_json.specs.View.{view};
-ghost use Rattle.dpx_files.specs.Members.{json_of, elements, flag_of, member, object_in, number_within, ranged, ranged_or};
+ghost use Rattle.dpx_files.specs.Members.{json_of, elements, flag_of, object_in, number_within, ranged, ranged_or};
 ghost use Rattle.dpx_files.specs.declared.refusal.JobBad.TheVariants.{NotJson, Memory};
 
 use crate::{Field, JobBad};
@@ -44,15 +44,6 @@ pub(crate) fn object_in(field: Field, member: Option<&Value>) -> Result<&Value, 
     }
 }
 
-/// A member that has to be there.
-pub(crate) fn member(field: Field, object: &Value) -> Result<&Value, Field>
-    ensures { MatchResult result
-        (λ value. member field (view object.now) ≡ Ok (view value.now))
-        (λ wrong. member field (view object.now) ≡ Err wrong) }
-{
-    object.get(field.name()).ok_or(field)
-}
-
 /// 0 or 1.
 pub(crate) fn read_flag(value: &Value) -> Option<bool>
     ensures { result ≡ flag_of (view value.now) }
@@ -65,7 +56,7 @@ pub(crate) fn read_flag(value: &Value) -> Option<bool>
 }
 
 /// A whole number from `low` to `high`.
-pub(crate) fn read_number(value: &Value, low: u32, high: u32) -> Option<u32>
+fn read_number(value: &Value, low: u32, high: u32) -> Option<u32>
     ensures value { result ≡ number_within low high (view value.now) }
     ensures range { IfSome result (λ number. (low ≤ number) × (number ≤ high)) }
 {

@@ -34,8 +34,6 @@ pub enum Field {
     Extended,
     Defers,
     Channel,
-    Events,
-    Entries,
 }
 
 impl Field {
@@ -71,8 +69,6 @@ impl Field {
             Field::Extended => "extended",
             Field::Defers => "defers",
             Field::Channel => "channel",
-            Field::Events => "events",
-            Field::Entries => "entries",
         }
     }
 }

@@ -4,7 +4,7 @@ ghost use Rattle.serde_json.specs.View.{view};
 ghost use Rattle.dpx_files.specs.Refusal.{GivesUnlessMemory, refused};
 ghost use Rattle.dpx_files.specs.Script.{script_of, answer_of, answer_from, short_bytes};
 
-use crate::items::{Item, read_items};
+use crate::members::elements;
 use crate::{Field, JobBad};
 use dpx_base::{Answer, Bytes20};
 use dpx_dpcd::AnswerList;
@@ -22,20 +22,28 @@ const MOST_BYTES: usize = 20;
 pub(crate) fn read_script(alloc: Global, script: &Value) -> Result<AnswerList, JobBad>
     ensures { GivesUnlessMemory (refused (script_of (view script.now))) result }
 {
-    match read_items(alloc, Field::Script, MOST_ANSWERS, script) {
-        Ok(answers) => Ok(AnswerList::from_vec(answers)),
-        Err(why) => Err(why),
+    let Some(values) = elements(script) else {
+        return Err(JobBad::Wrong(Field::Script));
+    };
+    if values.len() > MOST_ANSWERS {
+        return Err(JobBad::Wrong(Field::Script));
     }
+    let mut answers = Vec::new(alloc);
+    for value in values {
+        let Some(answer) = read_answer(value) else {
+            return Err(JobBad::Wrong(Field::Script));
+        };
+        if answers.push(answer).is_err() {
+            return Err(JobBad::Memory);
+        }
+    }
+    Ok(AnswerList::from_vec(answers))
 }
 
-impl Item for Answer {
-    ghost use Rattle.dpx_files.specs.Script.{answer_of};
-
-    ghost item_of = { answer_of };
-
-    fn read_item(value: &Value) -> Option<Answer> {
-        value.as_str().and_then(answer_from)
-    }
+fn read_answer(value: &Value) -> Option<Answer>
+    ensures { result ≡ answer_of (view value.now) }
+{
+    value.as_str().and_then(answer_from)
 }
 
 fn answer_from(text: &str) -> Option<Answer>
@@ -50,8 +58,7 @@ fn answer_from(text: &str) -> Option<Answer>
     }
 }
 
-/// An even number of hexadecimal digits, at most 40.
-pub(crate) fn short_bytes(text: &str) -> Option<Bytes20>
+fn short_bytes(text: &str) -> Option<Bytes20>
     ensures { result ≡ short_bytes text.now }
 {
     if text.len() > 2 * MOST_BYTES {

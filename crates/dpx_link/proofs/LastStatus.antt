@@ -30,7 +30,7 @@ use Rattle.dpx_phase.specs.declared.phase_end.PhaseEnd.TheVariants.{Done, Failed
 use Rattle.dpx_phase.specs.Equalisation.{Equalisation}
 use Rattle.dpx_phase.specs.LastStatus.{EndIsRead, IsLastRead, IsLastReadWith, ReadsNoStatus, WritesNoDrive}
 use Rattle.dpx_phase.specs.Recovery.{Recovery}
-use Rattle.dpx_phase.proofs.LastStatus.{recovery_tells, equalisation_tells, takes_read, read_behind}
+use Rattle.dpx_phase.proofs.LastStatus.{recovery_tells, equalisation_tells, takes_read}
 use Rattle.dpx_link.specs.declared.attempt.AttemptEnd.{AttemptEnd}
 use Rattle.dpx_link.specs.declared.attempt.AttemptEnd.TheVariants as attempt
 use Rattle.dpx_link.specs.declared.fallback.Next.{Next}
@@ -44,6 +44,18 @@ use Rattle.dpx_link.specs.Training.{Capable, Attempts, AfterAttempt, TrainsWith,
 use Rattle.dpx_link.specs.Training.{attempts_at_most, end_of}
 
 -- entries in front change nothing
+read_behind : (status : Status6) (front history : List Entry) → IsLastRead status history
+    → IsLastRead status (front ++ history)
+read_behind status front history l = record {
+  before = front ++ l.before;
+  read = l.read;
+  after = l.after;
+  joined = ap (λ (entries : List Entry). front ++ entries) l.joined
+      ∙ sym (append_assoc front l.before (l.read ++ l.after));
+  given = l.given;
+  unread = l.unread;
+}
+
 read_with_behind : (lanes : Lanes) (drive : Drive) (status : Status6) (front history : List Entry)
     → IsLastReadWith lanes drive status history → IsLastReadWith lanes drive status (front ++ history)
 read_with_behind lanes drive status front history l = record {

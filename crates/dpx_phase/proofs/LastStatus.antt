@@ -143,7 +143,7 @@ read_after_wait pause status (Ok waited) back on = on
 read_after_wait pause status (Err error) back on = absurd (let e = on.0 in cc)
 
 -- a status that was read last, whatever the drive
-pub forget_drive : (lanes : Lanes) (drive : Drive) (status : Status6) (history : List Entry)
+forget_drive : (lanes : Lanes) (drive : Drive) (status : Status6) (history : List Entry)
     → IsLastReadWith lanes drive status history → IsLastRead status history
 forget_drive lanes drive status history l = record {
   before = l.before ++ (l.write ++ l.given.front);
@@ -152,19 +152,6 @@ forget_drive lanes drive status history l = record {
   joined = l.joined ∙ ap (λ (entries : List Entry). l.before ++ (l.write ++ (entries ++ l.after))) l.given.joined
       ∙ regrouped l.before l.write l.given.front l.given.back l.after;
   given = read_after_wait l.pause status l.given.middle l.given.back l.given.goes_on;
-  unread = l.unread;
-}
-
--- entries in front change nothing
-pub read_behind : (status : Status6) (front history : List Entry) → IsLastRead status history
-    → IsLastRead status (front ++ history)
-read_behind status front history l = record {
-  before = front ++ l.before;
-  read = l.read;
-  after = l.after;
-  joined = ap (λ (entries : List Entry). front ++ entries) l.joined
-      ∙ sym (append_assoc front l.before (l.read ++ l.after));
-  given = l.given;
   unread = l.unread;
 }
 

@@ -50,7 +50,7 @@ front_symbols n row plain h =
       | inr l ↦ symbols_front n row plain l h
     ]
 
-pub cut_row : (n : ℕ) (words : List (List ℕ)) (lane : ℕ) → lane < length words
+cut_row : (n : ℕ) (words : List (List ℕ)) (lane : ℕ) → lane < length words
     → words_of (cut n words) lane ≡ take n (words_of words lane)
 cut_row n words lane l = get_or-map (λ (row : List ℕ). take n row) words lane [] [] l
 

@@ -8,7 +8,6 @@ use Rattle.dpx_base.specs.Mode.{depth_bits}
 use Rattle.dpx_base.specs.PixelRecord.{pixel_record}
 use Rattle.dpx_grammar.specs.Accepted.{Frame}
 use Rattle.dpx_msa.specs.declared.attributes.Attributes.{Attributes}
-use Rattle.dpx_reception.specs.Digits.{hex_byte}
 use Rattle.dpx_reception.specs.Reception.{Fault, Reception, PartlyReceived}
 
 -- the records of pixels, of a frame's whole lines, and of all frames'
@@ -25,7 +24,7 @@ word_and_number word number = word ++ decimal number
 abbrev pub bit : Bool → ℕ
 bit b = if b then 1 else 0
 
--- a line that tells the attributes, MISC0 in hexadecimal
+-- a line that tells the attributes
 unfoldable pub attributes_line : Attributes → List ℕ
 attributes_line a =
     word_and_number (codes "attributes width ") a.width ++ word_and_number (codes " height ") a.height
@@ -34,7 +33,7 @@ attributes_line a =
     ++ word_and_number (codes " sync ") a.hsw ++ word_and_number (codes " ") a.vsw
     ++ word_and_number (codes " polarity ") (bit a.hsp) ++ word_and_number (codes " ") (bit a.vsp)
     ++ word_and_number (codes " mvid ") a.mvid ++ word_and_number (codes " nvid ") a.nvid
-    ++ codes " misc0 " ++ hex_byte a.misc0 ++ word_and_number (codes " depth ") (depth_bits a.depth)
+    ++ word_and_number (codes " misc0 ") a.misc0 ++ word_and_number (codes " depth ") (depth_bits a.depth)
     ++ codes "\n"
 
 -- those of all frames

@@ -1,11 +1,8 @@
 -- A batch of whole clocks behind those before it: what was left of an unfinished clock, and a piece behind it.
-use Rattle.std.proofs.Common.{ℕ, ◌≡◌, ◌∙◌, ◌<◌, ◌+◌, ◌*◌, ◌/◌, ◌%◌, List, [], ◌++◌, length, sym, ap, subst}
-use Rattle.std.proofs.Common.{append_assoc, arith, refl, Result, Ok, Err}
+use Rattle.std.proofs.Common.{ℕ, ◌≡◌, ◌∙◌, ◌<◌, ◌+◌, ◌*◌, ◌/◌, ◌%◌, List, [], ◌++◌, length, sym, ap, subst, append_assoc, arith, refl, Result, Ok, Err}
 use Rattle.std.specs.Prelude.{OnOk}
-use Rattle.std.proofs.Common.{◌∷◌, ◌-◌, ◌^◌, get_or, take, drop, inl, inr}
-use Rattle.std.proofs.Math.Nat.{mul-le-mul_right}
+use Rattle.std.proofs.Common.{◌∷◌, ◌-◌, get_or, take, drop}
 use Rattle.std.proofs.Math.Seq.{take-add}
-use Rattle.std.proofs.lemmas.Bool.{cases_lt}
 use Rattle.std.proofs.lemmas.List.{take-append-drop, take_rest}
 use Rattle.std.proofs.lemmas.Nat.{div-add-mod', div-mul-add}
 use Rattle.dpx_base.specs.Capture.{words_in}
@@ -20,8 +17,7 @@ use Rattle.dpx_sink.specs.declared.reader.Reader.{Reader}
 use Rattle.dpx_sink.proofs.Cuts.{whole_piece, words_more}
 
 -- the words that rows take of a batch
-pub batch_words : (lanes : ℕ) (piece : List ℕ)
-    → words_in lanes (length piece / (2 * lanes)) piece ≡ received_words lanes piece
+pub batch_words : (lanes : ℕ) (piece : List ℕ) → words_in lanes (length piece / (2 * lanes)) piece ≡ received_words lanes piece
 unfolding received_words clocks_in
 batch_words lanes piece = refl
 
@@ -44,8 +40,7 @@ has_read f r words p l h = record {
 
 module _ (link : Link) (n : ℕ) (bytes done left piece : List ℕ) (cut : IsCut (lanes_count link.lanes) bytes done left)
     (e : length (left ++ piece) ≡ n * (2 * lanes_count link.lanes)) where
-  pub same_words : joined (received_words (lanes_count link.lanes) done)
-      (received_words (lanes_count link.lanes) (left ++ piece))
+  pub same_words : joined (received_words (lanes_count link.lanes) done) (received_words (lanes_count link.lanes) (left ++ piece))
       ≡ received_words (lanes_count link.lanes) (done ++ (left ++ piece))
   same_words = words_more (lanes_count link.lanes) cut.clocks done (left ++ piece) (some_lanes link.lanes) cut.whole
 
@@ -54,14 +49,12 @@ module _ (link : Link) (n : ℕ) (bytes done left piece : List ℕ) (cut : IsCut
 
   pub read_on : (r : Reader) (p l : List ℕ)
       → HasReadWhole (framing_of link) r
-      (joined (received_words (lanes_count link.lanes) done)
-      (received_words (lanes_count link.lanes) (left ++ piece))) p l
+      (joined (received_words (lanes_count link.lanes) done) (received_words (lanes_count link.lanes) (left ++ piece))) p l
       → HasReadWhole (framing_of link) r (received_words (lanes_count link.lanes) (done ++ (left ++ piece))) p l
   read_on r p l h = subst (λ w. HasReadWhole (framing_of link) r w p l) same_words h
 
   pub in_front : (P : List (List ℕ) → Type 0)
-      → P (joined (received_words (lanes_count link.lanes) done)
-      (received_words (lanes_count link.lanes) (left ++ piece)))
+      → P (joined (received_words (lanes_count link.lanes) done) (received_words (lanes_count link.lanes) (left ++ piece)))
       → InFront link P (bytes ++ piece)
   in_front P h = record {
     front = done ++ (left ++ piece);
@@ -89,23 +82,13 @@ pub on_ok : {T E P Q : Type 0} (r : Result T E) → (P → Q) → OnOk r P → O
 on_ok (Ok x) f h = f h
 on_ok (Err e) f h = tt
 
--- the bytes of more clocks, and of what is left behind them
-pub bytes_on : (clocks n wide left next fed more : ℕ) → clocks * wide + left ≡ fed → left + more ≡ n * wide + next
-    → (clocks + n) * wide + next ≡ fed + more
-bytes_on clocks n wide left next fed more f g =
-    let s : (clocks + n) * wide ≡ clocks * wide + n * wide = omega arith in
-    omega (arith, s, f, g)
-
-pub one_more : (clocks wide : ℕ) → (clocks + 1) * wide ≡ clocks * wide + wide
-one_more clocks wide = omega arith
-
--- fewer bytes than those of so many clocks have fewer clocks
-pub few_clocks : (clocks wide left : ℕ) → clocks * wide + left < 2 ^ 62 * wide → clocks < 2 ^ 62
-few_clocks clocks wide left h =
-    elim (cases_lt clocks (2 ^ 62)) [
-      | inl l ↦ l
-      | inr g ↦ absurd (omega (arith, h, mul-le-mul_right {m = 2 ^ 62} {n = clocks} wide g))
-    ]
+-- the clocks fed, and what is left, are the bytes fed
+pub fed_on : (before now n wide left next fed more : ℕ) → now ≡ before + n → before * wide + left ≡ fed
+    → left + more ≡ n * wide + next → now * wide + next ≡ fed + more
+fed_on before now n wide left next fed more e f g =
+    let a : now * wide ≡ (before + n) * wide = ap (λ x. x * wide) e in
+    let s : (before + n) * wide ≡ before * wide + n * wide = omega arith in
+    omega (arith, a, s, f, g)
 
 pub one_clock : (wide : ℕ) → 0 < wide → wide / wide ≡ 1
 one_clock wide some =
@@ -129,8 +112,7 @@ front_all link P taken bytes n h =
 
 -- the bytes before a place, and then some from it on
 pub go_on : (taken bytes : List ℕ) (start n : ℕ)
-    → (taken ++ take start bytes) ++ take n (take (length bytes - start) (drop start bytes)) ≡ taken ++ take
-    (start + n) bytes
+    → (taken ++ take start bytes) ++ take n (take (length bytes - start) (drop start bytes)) ≡ taken ++ take (start + n) bytes
 go_on taken bytes start n =
     ap (λ xs. (taken ++ take start bytes) ++ take n xs) (take_rest bytes start)
     ∙ (append_assoc taken (take start bytes) (take n (drop start bytes))

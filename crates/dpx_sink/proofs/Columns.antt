@@ -1,6 +1,5 @@
 -- Pixels of a lane, symbol by symbol.
-use Rattle.std.proofs.Common.{ℕ, suc, ◌≡◌, ◌∙◌, ◌<◌, ◌≤◌, ◌+◌, ◌-◌, ◌*◌, ◌/◌, ◌%◌, List, [], ◌∷◌, get_or, take, Some}
-use Rattle.std.proofs.Common.{length-append, length, refl, ap, arith}
+use Rattle.std.proofs.Common.{ℕ, suc, ◌≡◌, ◌∙◌, ◌<◌, ◌≤◌, ◌+◌, ◌-◌, ◌*◌, ◌/◌, ◌%◌, List, [], ◌∷◌, get_or, take, Some, length-append, length, refl, ap, arith}
 use Rattle.std.specs.Int.{bit_at}
 use Rattle.std.proofs.Math.Nat.{div-lt_iff_lt-mul, mul-le-mul_right}
 use Rattle.std.proofs.lemmas.Nat.{le-div, div-add-mod'}
@@ -21,8 +20,7 @@ pub length_symbols : (rows : List (List ℕ)) (lane symbols : ℕ) → length (l
 unfolding lane_symbols
 length_symbols rows lane symbols = length-span (symbol_in rows lane) 0 symbols
 
-lane_is : (rows : List (List ℕ)) (lane symbols : ℕ)
-    → lane_symbols rows lane symbols ≡ span (symbol_in rows lane) 0 symbols
+lane_is : (rows : List (List ℕ)) (lane symbols : ℕ) → lane_symbols rows lane symbols ≡ span (symbol_in rows lane) 0 symbols
 unfolding lane_symbols
 lane_is rows lane symbols = refl
 
@@ -54,8 +52,7 @@ component_same c f g n k place agree l p =
     let s : ℕ = k * (3 * c) + place * c in
     ap number_of (span-same (carried_bit f) (carried_bit g) s s c (λ i h.
     let few : s + i < n * 8 = omega (arith, l, room, h) in
-    ap (λ b. bit_at b (7 - (s + i) % 8))
-    (agree ((s + i) / 8) ((div-lt_iff_lt-mul {k = 8} {x = s + i} {y = n} (omega arith)).1 few))))
+    ap (λ b. bit_at b (7 - (s + i) % 8)) (agree ((s + i) / 8) ((div-lt_iff_lt-mul {k = 8} {x = s + i} {y = n} (omega arith)).1 few))))
 
 pub pixel_same : (c : ℕ) (f g : ℕ → ℕ) (n k : ℕ) → ((j : ℕ) → j < n → f j ≡ g j) → (k + 1) * (3 * c) ≤ 8 * n
     → carried_pixel c f k ≡ carried_pixel c g k

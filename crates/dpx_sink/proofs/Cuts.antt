@@ -1,6 +1,5 @@
 -- Bytes in any cuts.
-use Rattle.std.proofs.Common.{ℕ, ◌≡◌, ◌∙◌, ◌<◌, ◌+◌, ◌*◌, ◌/◌, List, [], ◌∷◌, ◌++◌, length, sym, ap, arith}
-use Rattle.std.proofs.Common.{append_assoc, length-append}
+use Rattle.std.proofs.Common.{ℕ, ◌≡◌, ◌∙◌, ◌<◌, ◌+◌, ◌*◌, ◌/◌, List, [], ◌∷◌, ◌++◌, length, sym, ap, arith, append_assoc, length-append}
 use Rattle.std.proofs.Common.{get_or, drop, map, length-drop}
 use Rattle.std.proofs.Math.Nat.{add-mul-div_left}
 use Rattle.std.proofs.lemmas.List.{append-nil, ext_get_or, get_or-append-add, get_or-map, get_or-drop, length-map}
@@ -97,7 +96,6 @@ words_more lanes n xs ys some e =
     (size ∙ (number ∙ sym (received_number lanes ys)))
     (λ lane k.
     let i : lane < lanes = omega (arith, k, size, number) in
-    get_or-map (λ (r : List ℕ). drop n r) all lane [] [] (omega (arith, i, number))
-    ∙ lane_rest lanes n xs ys lane i e) in
+    get_or-map (λ (r : List ℕ). drop n r) all lane [] [] (omega (arith, i, number)) ∙ lane_rest lanes n xs ys lane i e) in
     ap (λ x. joined x (received_words lanes ys)) (sym front)
     ∙ (ap (λ x. joined (cut n all) x) (sym rest) ∙ cut_joined n all)

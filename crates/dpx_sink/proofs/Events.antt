@@ -11,8 +11,7 @@ use Rattle.dpx_sink.specs.Told.{Under, none, after, after_all, records_of, text_
 use Rattle.dpx_sink.specs.Told.{Tally, no_tally, tallied, tallied_all}
 use Rattle.std.specs.Prelude.{Bool}
 
-after_snoc : (under : Under) (es : List Event) (e : Event)
-    → after_all under (es ++ e ∷ []) ≡ after (after_all under es) e
+after_snoc : (under : Under) (es : List Event) (e : Event) → after_all under (es ++ e ∷ []) ≡ after (after_all under es) e
 after_snoc under [] e = refl
 after_snoc under (x ∷ es) e = after_snoc (after under x) es e
 
@@ -48,8 +47,7 @@ events_snoc en lanes before (s ∷ sets) set (x ∷ es) e are is = (
 )
 
 -- what one set more gives
-pub tell_on : (f : Framing) (sets : List (List Sym)) (set : List Sym) (e : Event) (p l : List ℕ) (under : Under)
-    (t : Tally)
+pub tell_on : (f : Framing) (sets : List (List Sym)) (set : List Sym) (e : Event) (p l : List ℕ) (under : Under) (t : Tally)
     → Tell f sets p l under t → HasNoFault f.enhanced (lanes_count f.lanes) (sets ++ set ∷ [])
     → IsEvent f.enhanced (lanes_count f.lanes) sets set e
     → Tell f (sets ++ set ∷ []) (p ++ records_of (lanes_count f.lanes) under e) (l ++ text_of e) (after under e)

@@ -1,12 +1,10 @@
 -- Attributes that were read have a size for which there is room.
-use Rattle.std.proofs.Common.{ℕ, ◌≡◌, ◌≤◌, Bool, true, false, List, [], ◌∷◌, length, Option, Some, None, refl, sym}
-use Rattle.std.proofs.Common.{subst}
+use Rattle.std.proofs.Common.{ℕ, ◌≡◌, ◌≤◌, Bool, true, false, List, [], ◌∷◌, length, Option, Some, None, refl, sym, subst}
 use Rattle.std.specs.Prelude.{if◌then◌else◌, ◌==◌, ◌&&◌, not, is_some, nat_le, reverse}
 use Rattle.std.proofs.lemmas.Bool.{leb-true}
 use Rattle.dpx_base.specs.RawMode.{is_within}
 use Rattle.dpx_base.specs.declared.sym.Sym.{Sym}
-use Rattle.dpx_msa.specs.Reading.{read_attributes, answered, attributes_in, first_refusal, width, height, colour}
-use Rattle.dpx_msa.specs.Reading.{misc0, misc1, depth_code}
+use Rattle.dpx_msa.specs.Reading.{read_attributes, answered, attributes_in, first_refusal, width, height, colour, misc0, misc1, depth_code}
 use Rattle.dpx_msa.specs.declared.msa_bad.MsaBad.{MsaBad}
 use Rattle.dpx_msa.specs.declared.msa_bad.MsaBad.TheVariants.{Colour, DepthCode, Misc1, Width, Height}
 use Rattle.dpx_grammar.specs.Parts.{Part, group, block, filler, attributes, secondary, begins, valid, stuffing}
@@ -22,8 +20,7 @@ chosen : (b : Bool) (e f : Event) → Fits e → Fits f → Fits (if b then e el
 chosen true e f h k = h
 chosen false e f h k = k
 
-passed : (b : Bool) (bad : MsaBad) (rest : Option MsaBad) → (if not b then Some bad else rest) ≡ None → (b ≡ true)
-    × (rest ≡ None)
+passed : (b : Bool) (bad : MsaBad) (rest : Option MsaBad) → (if not b then Some bad else rest) ≡ None → (b ≡ true) × (rest ≡ None)
 passed true bad rest e = (refl, e)
 passed false bad rest e = absurd (cc)
 
@@ -54,8 +51,7 @@ read bytes = read_by bytes (first_refusal bytes) refl
 
 newest : (lanes : ℕ) (parts : List Part) → Fits (newest_event lanes parts)
 newest lanes [] = tt
-newest lanes (group reset ∷ before) =
-    chosen (is_some (in_force lanes before) && is_live before) event.LineEnd event.Nothing tt tt
+newest lanes (group reset ∷ before) = chosen (is_some (in_force lanes before) && is_live before) event.LineEnd event.Nothing tt tt
 newest lanes (block rows ∷ before) = tt
 newest lanes (filler row ∷ before) = tt
 newest lanes (attributes rows ∷ before) = read (gathered lanes rows)
@@ -64,8 +60,7 @@ newest lanes (begins ∷ before) = chosen (is_some (in_force lanes before)) even
 newest lanes (valid row ∷ before) = chosen (is_some (in_force lanes before)) (event.Valid row) event.Nothing tt tt
 newest lanes (stuffing rows ∷ before) = tt
 
-pub fits : (en : Bool) (lanes : ℕ) (sets : List (List Sym)) (set : List Sym) (e : Event) → IsEvent en lanes sets set e
-    → Fits e
+pub fits : (en : Bool) (lanes : ℕ) (sets : List (List Sym)) (set : List Sym) (e : Event) → IsEvent en lanes sets set e → Fits e
 fits en lanes sets set e i =
     subst Fits (sym i.event_is)
     (chosen (length (reverse i.new) == length (reverse i.old)) event.Nothing (newest_event lanes (reverse i.new)) tt

@@ -1,7 +1,6 @@
 -- Sets that were taken one by one.
 use Rattle.std.specs.Prelude.{Bool}
-use Rattle.std.proofs.Common.{◌++◌, ℕ, zero, suc, ◌+◌, ◌<◌, ◌≤◌, ◌≡◌, ◌∙◌, inl, inr, List, [], ◌∷◌, length, Some}
-use Rattle.std.proofs.Common.{refl, sym, ap, subst, arith}
+use Rattle.std.proofs.Common.{◌++◌, ℕ, zero, suc, ◌+◌, ◌<◌, ◌≤◌, ◌≡◌, ◌∙◌, inl, inr, List, [], ◌∷◌, length, Some, refl, sym, ap, subst, arith}
 use Rattle.std.specs.Prelude.{slice_index_or, slice_get}
 use Rattle.std.proofs.lemmas.Bool.{cases_lt}
 use Rattle.std.proofs.lemmas.Option.{slice_get-get_or, slice_get_within}
@@ -29,10 +28,8 @@ length-listed zero f = refl
 length-listed (suc n) f = ap suc (length-listed n (λ i. f (suc i)))
 
 -- a set before a complete one is complete, as its symbols stand before that set's
-near_by : (group : List Sym) (lanes : List (List Sym)) (s t : ℕ) (set : List Sym) (start : ℕ → ℕ) → t ≤ s
-    → (h : SetOf group lanes s set)
-    → ((j : ℕ) → j < length lanes → FirstFrom group (lane_of lanes j) h.at (start j)) → (other : List Sym)
-    × SetOf group lanes t other
+near_by : (group : List Sym) (lanes : List (List Sym)) (s t : ℕ) (set : List Sym) (start : ℕ → ℕ) → t ≤ s → (h : SetOf group lanes s set)
+    → ((j : ℕ) → j < length lanes → FirstFrom group (lane_of lanes j) h.at (start j)) → (other : List Sym) × SetOf group lanes t other
 near_by group lanes s t set start l h starts =
     let f : ℕ → Sym = λ j. slice_index_or (lane_of lanes j) (start j + t) fill in
     let n : ℕ = length lanes in
@@ -44,10 +41,8 @@ near_by group lanes s t set start l h starts =
         size = size;
         symbols = λ j d i.
             let o = h.symbols j d i in
-            let e : o.start ≡ start j =
-            first_once group (lane_of lanes j) h.at o.start (start j) o.starts (starts j i) in
-            let b : o.start + s < length (lane_of lanes j) =
-            slice_get_within (lane_of lanes j) (o.start + s) (slice_index_or set j d) o.there in
+            let e : o.start ≡ start j = first_once group (lane_of lanes j) h.at o.start (start j) o.starts (starts j i) in
+            let b : o.start + s < length (lane_of lanes j) = slice_get_within (lane_of lanes j) (o.start + s) (slice_index_or set j d) o.there in
             record {
               start = start j;
               starts = starts j i;
@@ -61,21 +56,16 @@ near_by group lanes s t set start l h starts =
 start_in : (group : List Sym) (lanes : List (List Sym)) (s : ℕ) (set : List Sym) → SetOf group lanes s set → ℕ → ℕ
 start_in group lanes s set h j = elim (cases_lt j (length lanes)) [ inl l ↦ (h.symbols j fill l).start | inr l ↦ 0 ]
 
-start_is : (group : List Sym) (lanes : List (List Sym)) (s : ℕ) (set : List Sym) (h : SetOf group lanes s set) (j : ℕ)
-    → j < length lanes
+start_is : (group : List Sym) (lanes : List (List Sym)) (s : ℕ) (set : List Sym) (h : SetOf group lanes s set) (j : ℕ) → j < length lanes
     → FirstFrom group (lane_of lanes j) h.at (start_in group lanes s set h j)
 unfolding start_in
-start_is group lanes s set h j i =
-    elim (cases_lt j (length lanes)) as
-    (λ c. FirstFrom group (lane_of lanes j) h.at (elim c [ inl l ↦ (h.symbols j fill l).start | inr l ↦ 0 ])) [
-      | inl l ↦ (h.symbols j fill l).starts
-      | inr l ↦ absurd (omega arith)
-    ]
+start_is group lanes s set h j i = elim (cases_lt j (length lanes)) as (λ c. FirstFrom group (lane_of lanes j) h.at (elim c [ inl l ↦ (h.symbols j fill l).start | inr l ↦ 0 ])) [
+  | inl l ↦ (h.symbols j fill l).starts
+  | inr l ↦ absurd (omega arith)
+]
 
-pub set_before : (group : List Sym) (lanes : List (List Sym)) (s t : ℕ) (set : List Sym) → t ≤ s
-    → SetOf group lanes s set → (other : List Sym) × SetOf group lanes t other
-set_before group lanes s t set l h =
-    near_by group lanes s t set (start_in group lanes s set h) l h (start_is group lanes s set h)
+pub set_before : (group : List Sym) (lanes : List (List Sym)) (s t : ℕ) (set : List Sym) → t ≤ s → SetOf group lanes s set → (other : List Sym) × SetOf group lanes t other
+set_before group lanes s t set l h = near_by group lanes s t set (start_in group lanes s set h) l h (start_is group lanes s set h)
 
 -- sets that were taken one by one until none was complete are all of them
 pub given_are_sets : (enhanced : Bool) (plain sets : List (List Sym)) → AreFirstSets enhanced plain sets

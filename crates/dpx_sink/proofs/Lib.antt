@@ -13,7 +13,3 @@ pub mod Readers
 pub mod Starts
 pub mod Cuts
 pub mod Batches
-pub mod Frames
-pub mod FrontsDue
-pub mod Ends
-pub mod CapturesWritten

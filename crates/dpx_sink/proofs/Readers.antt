@@ -1,6 +1,5 @@
 -- What a reader's parts stand for, step by step.
-use Rattle.std.proofs.Common.{ℕ, ◌≡◌, ◌∙◌, ◌+◌, Bool, List, [], ◌∷◌, ◌++◌, subst, sym, ap, arith, length-append}
-use Rattle.std.proofs.Common.{Option, Some, None, Ok, inl, inr, slice_get}
+use Rattle.std.proofs.Common.{ℕ, ◌≡◌, ◌∙◌, ◌+◌, Bool, List, [], ◌∷◌, ◌++◌, subst, sym, ap, arith, length-append, Option, Some, None, Ok, inl, inr, slice_get}
 use Rattle.dpx_align.specs.Aligner.{WasFed, IsFaultOf, CountedTo, Answers, NoSet, sets_given, given_after, place_of}
 use Rattle.dpx_align.specs.Aligner.{is_enhanced, lanes_of as aligner_lanes}
 use Rattle.dpx_align.specs.declared.step.Step.{Step}
@@ -74,8 +73,7 @@ given_more f a b words sets set en more fed answer h = record {
 }
 
 -- none is complete behind those that were given
-pub all_given : (f : Framing) (a : Aligner) (words : List (List ℕ)) (sets : List (List Sym))
-    → is_enhanced a ≡ f.enhanced
+pub all_given : (f : Framing) (a : Aligner) (words : List (List ℕ)) (sets : List (List Sym)) → is_enhanced a ≡ f.enhanced
     → (h : HasGiven f a words sets)
     → ((set : List Sym) → SetOf (sr_group (is_enhanced a)) h.plain (sets_given a) set → ⊥)
     → AreSets f.enhanced h.plain sets
@@ -100,8 +98,7 @@ given_on f a b words longer sets given fed h =
     }
 
 -- an aligner's answers, case by case
-pub answer_set : (a : Aligner) (words : List (List ℕ)) (plain : List (List Sym)) (step : Step) (number : ℕ)
-    (set : List Sym)
+pub answer_set : (a : Aligner) (words : List (List ℕ)) (plain : List (List Sym)) (step : Step) (number : ℕ) (set : List Sym)
     → step ≡ Set number set → Answers a words plain (Ok step)
     → SetOf (sr_group (is_enhanced a)) plain (sets_given a) set
 answer_set a words plain step number set e h =

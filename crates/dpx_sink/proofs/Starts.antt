@@ -1,6 +1,5 @@
 -- Before any byte.
-use Rattle.std.proofs.Common.{ℕ, zero, suc, ◌≡◌, ◌∙◌, ◌<◌, ◌+◌, ◌/◌, ◌*◌, Bool, List, [], ◌∷◌, map, length, replicate}
-use Rattle.std.proofs.Common.{slice_get, Some, refl, sym, ap, arith}
+use Rattle.std.proofs.Common.{ℕ, zero, suc, ◌≡◌, ◌∙◌, ◌<◌, ◌+◌, ◌/◌, ◌*◌, Bool, List, [], ◌∷◌, map, length, replicate, slice_get, Some, refl, sym, ap, arith}
 use Rattle.std.specs.List.{range_with_len}
 use Rattle.std.proofs.lemmas.List.{length-replicate}
 use Rattle.dpx_align.specs.Faults.{NoFault}
@@ -53,8 +52,7 @@ no_sets enhanced n some = record {
 
 empty_rows : (f : ℕ → List ℕ) (a n : ℕ) → ((x : ℕ) → f x ≡ []) → map f (range_with_len a n) ≡ replicate n []
 empty_rows f a zero h = refl
-empty_rows f a (suc n) h = ap (λ x. x ∷ map f (range_with_len (a + 1) n)) (h a)
-    ∙ ap (λ xs. [] ∷ xs) (empty_rows f (a + 1) n h)
+empty_rows f a (suc n) h = ap (λ x. x ∷ map f (range_with_len (a + 1) n)) (h a) ∙ ap (λ xs. [] ∷ xs) (empty_rows f (a + 1) n h)
 
 -- no bytes have no words
 pub no_received : (lanes : ℕ) → received_words lanes [] ≡ replicate lanes []

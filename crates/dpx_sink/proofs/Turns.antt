@@ -1,6 +1,5 @@
 -- The records of pixels that lanes have in turn.
-use Rattle.std.proofs.Common.{ℕ, ◌≡◌, ◌∙◌, ◌≤◌, ◌+◌, ◌-◌, ◌*◌, length-append, length-drop, ◌/◌, ◌%◌, List, [], ◌∷◌}
-use Rattle.std.proofs.Common.{◌++◌, length, take, drop, get_or, ap, arith}
+use Rattle.std.proofs.Common.{ℕ, ◌≡◌, ◌∙◌, ◌≤◌, ◌+◌, ◌-◌, ◌*◌, length-append, length-drop, ◌/◌, ◌%◌, List, [], ◌∷◌, ◌++◌, length, take, drop, get_or, ap, arith}
 use Rattle.std.specs.List.{flat_map}
 use Rattle.std.proofs.lemmas.List.{append-nil}
 use borrow.Rule.Slice.PartMut.{put_mid, post_of}
@@ -25,8 +24,7 @@ one_record p = append-nil (pixel_record p)
 
 pub no_turns : (lane_pixels : ℕ → List Pixel) (lanes : ℕ) → pixel_records (in_turns lane_pixels lanes 0) ≡ []
 unfolding in_turns pixel_records
-no_turns lane_pixels lanes =
-    ap (flat_map pixel_record) (span-none (λ x. get_or (lane_pixels (x % lanes)) (x / lanes) black) 0)
+no_turns lane_pixels lanes = ap (flat_map pixel_record) (span-none (λ x. get_or (lane_pixels (x % lanes)) (x / lanes) black) 0)
 
 -- one more pixel in its turn
 pub one_turn_more : (lane_pixels : ℕ → List Pixel) (lanes x : ℕ)
@@ -36,8 +34,7 @@ unfolding in_turns
 one_turn_more lane_pixels lanes x =
     let f : ℕ → Pixel = λ y. get_or (lane_pixels (y % lanes)) (y / lanes) black in
     ap pixel_records (span-more f 0 x)
-    ∙ (records_append (span f 0 x) (f (0 + x) ∷ [])
-    ∙ ap (λ xs. pixel_records (span f 0 x) ++ xs) (single (f (0 + x)) ∙ ap (λ y. pixel_record (f y)) (omega arith)))
+    ∙ (records_append (span f 0 x) (f (0 + x) ∷ []) ∙ ap (λ xs. pixel_records (span f 0 x) ++ xs) (single (f (0 + x)) ∙ ap (λ y. pixel_record (f y)) (omega arith)))
   where
     single : (p : Pixel) → pixel_records (p ∷ []) ≡ pixel_record p
     single p = one_record p

@@ -72,8 +72,7 @@ place_within c width lanes x some pos h =
 abbrev pub HaveColumns : (c : ℕ) → (held : List (List ℕ)) → (lanes symbols : ℕ) → (ℕ → List Pixel) → Type 0
 HaveColumns c held lanes symbols of = (lane : ℕ) → lane < lanes → of lane ≡ column c held lane symbols
 
-length_column : (c : ℕ) (held : List (List ℕ)) (lane symbols : ℕ)
-    → length (column c held lane symbols) ≡ whole_pixel_count c symbols
+length_column : (c : ℕ) (held : List (List ℕ)) (lane symbols : ℕ) → length (column c held lane symbols) ≡ whole_pixel_count c symbols
 unfolding column
 length_column c held lane symbols = length-span (carried_pixel c (symbol_in held lane)) 0 (whole_pixel_count c symbols)
 
@@ -85,8 +84,7 @@ column_at c held lane symbols k h =
     ∙ ap (carried_pixel c (symbol_in held lane)) (omega arith)
 
 pub there : (c width symbols : ℕ) (lanes : Lanes) (held : List (List ℕ)) (of : ℕ → List Pixel) (x : ℕ) → 6 ≤ c
-    → symbols ≡ symbols_of width (lanes_count lanes) (3 * c) → HaveColumns c held (lanes_count lanes) symbols of
-    → x < width
+    → symbols ≡ symbols_of width (lanes_count lanes) (3 * c) → HaveColumns c held (lanes_count lanes) symbols of → x < width
     → x / lanes_count lanes < length (of (x % lanes_count lanes))
 there c width symbols lanes held of x some s have h =
     let l : ℕ = lanes_count lanes in
@@ -94,8 +92,7 @@ there c width symbols lanes held of x some s have h =
     ap length (have (x % l) (mod-lt x (some_lanes lanes))) ∙ length_column c held (x % l) symbols in
     omega (arith, e, ap (whole_pixel_count c) s, place_within c width l x (omega (arith, some)) (some_lanes lanes) h)
 
-same_symbol : (rows : List (List ℕ)) (lane room j : ℕ) → j < room
-    → symbol_in (take room rows) lane j ≡ symbol_in rows lane j
+same_symbol : (rows : List (List ℕ)) (lane room j : ℕ) → j < room → symbol_in (take room rows) lane j ≡ symbol_in rows lane j
 same_symbol rows lane room j h = ap (λ row. get_or row lane 0) (get_or-take room rows j [] h)
 
 pub line_is : (c width symbols : ℕ) (lanes : Lanes) (rows held : List (List ℕ)) (of : ℕ → List Pixel) → 6 ≤ c → c ≤ 16
@@ -109,12 +106,7 @@ line_is c width symbols lanes rows held of some most w s held_is have =
     (λ x h.
     let y : 0 + x < width = omega (arith, h) in
     let k : (0 + x) / l < whole_pixel_count c symbols =
-    omega (
-      arith,
-      ap (whole_pixel_count c) s,
-      place_within c width l (0 + x) (omega (arith, some))
-          (some_lanes lanes) y,
-    ) in
+    omega (arith, ap (whole_pixel_count c) s, place_within c width l (0 + x) (omega (arith, some)) (some_lanes lanes) y) in
     let bound = pixel_within c symbols ((0 + x) / l) k in
     ap (λ xs. get_or xs ((0 + x) / l) black) (have ((0 + x) % l) (mod-lt (0 + x) (some_lanes lanes)))
     ∙ (column_at c held ((0 + x) % l) symbols ((0 + x) / l) k

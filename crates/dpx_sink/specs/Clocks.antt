@@ -17,16 +17,12 @@ pub record IsCut (lanes : ℕ) (bytes done left : List ℕ) : Type 0 where
 abbrev pub framing_of : Link → Framing
 framing_of link = record { enhanced = link.enhanced; lanes = link.lanes }
 
--- how many bytes it was fed: those of whole clocks, and those of an unfinished one
-abbrev pub bytes_in : Clocks → ℕ
-bytes_in c = c.clocks * (2 * lanes_count c.link.lanes) + length c.left.items
-
 -- It has taken these bytes, kept those of an unfinished clock, and refused nothing; these records and this text are all
 -- that those bytes give.
 pub record HasTaken (c : Clocks) (bytes records text : List ℕ) : Type 0 where
   pub done : List ℕ
   pub cut : IsCut (lanes_count c.link.lanes) bytes done c.left.items
-  pub fed : bytes_in c ≡ length bytes
+  pub fed : c.fed ≡ length bytes
   pub read : HasReadWhole (framing_of c.link) c.reader (received_words (lanes_count c.link.lanes) done) records text
 
 -- a front of the bytes ends as P says of its words
@@ -43,6 +39,6 @@ pub record IsReady (c : Clocks) : Type 0 where
   pub agrees : Agrees (framing_of c.link) c.reader
   pub rows : c.rows.lanes ≡ c.link.lanes
   pub short : length c.left.items < 2 * lanes_count c.link.lanes
-  pub fed : clocks_fed c.reader.aligner ≡ c.clocks
-  pub few : c.clocks < 2 ^ 62
+  pub fed : clocks_fed c.reader.aligner * (2 * lanes_count c.link.lanes) + length c.left.items ≡ c.fed
+  pub few : c.fed < 2 ^ 62
   pub rests : CanFeed c.reader.aligner

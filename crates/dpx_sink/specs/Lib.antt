@@ -6,5 +6,3 @@ pub mod Pixels
 pub mod Line
 pub mod Reader
 pub mod Clocks
-pub mod Receiver
-pub mod Laws

@@ -2,7 +2,6 @@ ghost use Rattle.std.specs.Prelude.{◌≡◌, ◌≤◌, ◌<◌, ◌+◌, ◌*
 ghost use Rattle.std.specs.Fmt.{decimal};
 ghost use Rattle.arrayvec.specs.ArrayVec.{array_vec_len};
 ghost use Rattle.dpx_base.specs.Mode.{depth_bits};
-ghost use Rattle.dpx_reception.specs.Digits.{hex_digit, hex_byte};
 ghost use Rattle.dpx_reception.specs.Due.{attributes_line, bit};
 
 use arrayvec::ArrayVec;
@@ -33,32 +32,6 @@ fn push_number(line: &mut LineText, word: &str, number: u32)
     push(line, Buffer::new().format(number).as_bytes());
 }
 
-#[tactic(auto, unfolding(dpx_reception::specs::Digits::hex_digit))]
-fn push_digit(line: &mut LineText, digit: u8)
-    requires digit { digit < 16 }
-    requires room { array_vec_len line.old + 1 ≤ 256 }
-    ensures items { line.new.items ≡ line.old.items ++ hex_digit digit }
-    ensures len { array_vec_len line.new ≡ array_vec_len line.old + 1 }
-{
-    let glyph = if digit < 10 {
-        b'0' + digit
-    } else {
-        b'A' - 10 + digit
-    };
-    line.push(glyph);
-}
-
-/// A byte's two digits, in upper case.
-#[tactic(auto, unfolding(dpx_reception::specs::Digits::hex_byte))]
-fn push_byte(line: &mut LineText, byte: u8)
-    requires { array_vec_len line.old + 2 ≤ 256 }
-    ensures items { line.new.items ≡ line.old.items ++ hex_byte byte }
-    ensures len { array_vec_len line.new ≡ array_vec_len line.old + 2 }
-{
-    push_digit(line, byte / 16);
-    push_digit(line, byte % 16);
-}
-
 fn bit(b: bool) -> u32
     ensures { result ≡ bit b }
 {
@@ -82,8 +55,7 @@ pub(crate) fn attributes_line(a: &Attributes) -> LineText
     push_number(&mut line, " ", bit(a.vsp));
     push_number(&mut line, " mvid ", a.mvid);
     push_number(&mut line, " nvid ", a.nvid);
-    push(&mut line, b" misc0 ");
-    push_byte(&mut line, a.misc0);
+    push_number(&mut line, " misc0 ", a.misc0 as u32);
     push_number(&mut line, " depth ", a.depth.bits() as u32);
     push(&mut line, b"\n");
     line

@@ -1,16 +1,14 @@
-ghost use Rattle.std.specs.Prelude.{◌≡◌, ◌≢◌, ◌≤◌, ◌<◌, ◌+◌, ◌*◌, ◌%◌, ◌^◌, ◌++◌, ◌∷◌, ℕ, List, [], Ok, Err, length};
-ghost use Rattle.std.specs.Prelude.{take};
-ghost use Rattle.std.specs.Prelude.{IfErr, IfOk, OnOk};
+ghost use Rattle.std.specs.Prelude.{◌≡◌, ◌≢◌, ◌≤◌, ◌<◌, ◌+◌, ◌*◌, ◌%◌, ◌^◌, ◌++◌, ◌∷◌, ℕ, List, [], Ok, Err, length, take};
+ghost use Rattle.std.specs.Prelude.{IfOk, OnOk};
 ghost use Rattle.dpx_align.specs.declared.align_bad.AlignBad.{AlignBad};
 ghost use Rattle.dpx_base.specs.Lanes.{lanes_count};
 ghost use Rattle.dpx_parse.specs.declared.bad.ParseBad.{ParseBad};
-ghost use Rattle.dpx_sink.specs.Clocks.{HasTaken, InFront, IsReady, framing_of, bytes_in};
+ghost use Rattle.dpx_sink.specs.Clocks.{HasTaken, InFront, IsReady, framing_of};
 ghost use Rattle.dpx_sink.specs.Reader.{HasBadWord, HasBadSet, HasSome};
-ghost use Rattle.dpx_sink.specs.Writes.{Went, Calm, LeavesCounts, sinks};
+ghost use Rattle.dpx_sink.specs.Writes.{Went, Calm, OneRose, sinks};
 
+use crate::RecvEnd;
 use crate::reader::Reader;
-use crate::refusal::Refusal;
-use crate::{FinishEnd, Received};
 use arrayvec::ArrayVec;
 use dpx_base::{Gate, Link, Memory, Sink, Workers};
 use dpx_lane::LaneRows;
@@ -27,33 +25,26 @@ pub(crate) struct Clocks {
     left: ArrayVec<u8, 8>,
     rows: LaneRows,
     reader: Reader,
-    clocks: u64,
+    fed: u64,
 }
 
 impl Clocks {
-    ghost use Rattle.dpx_sink.specs.Receiver.{EndsAs};
+    ghost use Rattle.dpx_sink.specs.declared.recv_end.RecvEnd.{RecvEnd};
 
     /// Takes all its memory, and has taken no byte.
     pub fn new(alloc: Global, link: Link) -> Result<Clocks, Memory>
         ensures nothing { IfOk result (λ clocks. HasTaken clocks [] [] []) }
         ensures ready { IfOk result IsReady }
         ensures link { IfOk result (λ clocks. clocks.link ≡ link) }
-        ensures none { IfOk result (λ clocks. bytes_in clocks ≡ 0) }
+        ensures none { IfOk result (λ clocks. clocks.fed ≡ 0) }
     {
         Ok(Clocks {
             link,
             left: ArrayVec::new(),
             rows: LaneRows::new(alloc, link.lanes)?,
             reader: Reader::new(alloc, link)?,
-            clocks: 0,
+            fed: 0,
         })
-    }
-
-    /// The bytes of a clock.
-    fn wide(&self) -> usize
-        ensures { result ≡ 2 * lanes_count self.now.link.lanes }
-    {
-        2 * usize::from(self.link.lanes.count())
     }
 
     /// Takes whole clocks, where none is unfinished.
@@ -65,12 +56,12 @@ impl Clocks {
         gate: &G,
         pix: &mut O,
         log: &mut O,
-    ) -> Result<(), Refusal>
+    ) -> Result<(), RecvEnd>
         requires ready { IsReady self.old }
         requires none { self.old.left.items ≡ [] }
         requires whole { length piece.now % (2 * lanes_count self.old.link.lanes) ≡ 0 }
         requires batch { length piece.now ≤ 2 * lanes_count self.old.link.lanes * 8192 }
-        requires few { bytes_in self.old + length piece.now < 2 ^ 62 * (2 * lanes_count self.old.link.lanes) }
+        requires few { self.old.fed + length piece.now < 2 ^ 62 }
         ensures went { (bytes p l : List ℕ) → HasTaken self.old bytes p l
             → Went (sinks (O.seen pix.old) (O.seen log.old)) (sinks (O.seen pix.new) (O.seen log.new)) p l
             (λ done q m. HasTaken self.new (bytes ++ piece.now) q m)
@@ -82,13 +73,13 @@ impl Clocks {
             (bytes ++ piece.now)) result }
         ensures ready { OnOk result (IsReady self.new) }
         ensures link { self.new.link ≡ self.old.link }
-        ensures fed { OnOk result (bytes_in self.new ≡ bytes_in self.old + length piece.now) }
-        ensures calm { OnOk result (Calm (sinks (O.seen pix.old) (O.seen log.old))
-            (sinks (O.seen pix.new) (O.seen log.new))) }
-        ensures cause { IfErr result (λ refusal. LeavesCounts refusal (sinks (O.seen pix.old) (O.seen log.old))
-            (sinks (O.seen pix.new) (O.seen log.new))) }
+        ensures fed { OnOk result (self.new.fed ≡ self.old.fed + length piece.now) }
+        ensures calm { result ≢ Err RecvEnd.WriteFault
+            → Calm (sinks (O.seen pix.old) (O.seen log.old)) (sinks (O.seen pix.new) (O.seen log.new)) }
+        ensures cause { result ≡ Err RecvEnd.WriteFault
+            → OneRose (sinks (O.seen pix.old) (O.seen log.old)) (sinks (O.seen pix.new) (O.seen log.new)) }
     {
-        self.clocks += (piece.len() / self.wide()) as u64;
+        self.fed += piece.len() as u64;
         self.rows.read_words(piece);
         self.reader
             .batch(rt, &mut self.rows, workers, gate, pix, log)
@@ -103,9 +94,9 @@ impl Clocks {
         gate: &G,
         pix: &mut O,
         log: &mut O,
-    ) -> Result<(), Refusal>
+    ) -> Result<(), RecvEnd>
         requires ready { IsReady self.old }
-        requires few { bytes_in self.old + 1 < 2 ^ 62 * (2 * lanes_count self.old.link.lanes) }
+        requires few { self.old.fed + 1 < 2 ^ 62 }
         ensures went { (bytes p l : List ℕ) → HasTaken self.old bytes p l
             → Went (sinks (O.seen pix.old) (O.seen log.old)) (sinks (O.seen pix.new) (O.seen log.new)) p l
             (λ done q m. HasTaken self.new (bytes ++ byte ∷ []) q m)
@@ -117,17 +108,17 @@ impl Clocks {
             (bytes ++ byte ∷ [])) result }
         ensures ready { OnOk result (IsReady self.new) }
         ensures link { self.new.link ≡ self.old.link }
-        ensures fed { OnOk result (bytes_in self.new ≡ bytes_in self.old + 1) }
-        ensures calm { OnOk result (Calm (sinks (O.seen pix.old) (O.seen log.old))
-            (sinks (O.seen pix.new) (O.seen log.new))) }
-        ensures cause { IfErr result (λ refusal. LeavesCounts refusal (sinks (O.seen pix.old) (O.seen log.old))
-            (sinks (O.seen pix.new) (O.seen log.new))) }
+        ensures fed { OnOk result (self.new.fed ≡ self.old.fed + 1) }
+        ensures calm { result ≢ Err RecvEnd.WriteFault
+            → Calm (sinks (O.seen pix.old) (O.seen log.old)) (sinks (O.seen pix.new) (O.seen log.new)) }
+        ensures cause { result ≡ Err RecvEnd.WriteFault
+            → OneRose (sinks (O.seen pix.old) (O.seen log.old)) (sinks (O.seen pix.new) (O.seen log.new)) }
     {
+        self.fed += 1;
         self.left.push(byte);
-        if self.left.len() < self.wide() {
+        if self.left.len() < 2 * usize::from(self.link.lanes.count()) {
             return Ok(());
         }
-        self.clocks += 1;
         self.rows.read_words(self.left.as_slice());
         self.left.clear();
         self.reader
@@ -143,10 +134,10 @@ impl Clocks {
         gate: &G,
         pix: &mut O,
         log: &mut O,
-    ) -> Result<usize, Refusal>
+    ) -> Result<usize, RecvEnd>
         requires ready { IsReady self.old }
         requires some { 0 < length bytes.now }
-        requires few { bytes_in self.old + length bytes.now < 2 ^ 62 * (2 * lanes_count self.old.link.lanes) }
+        requires few { self.old.fed + length bytes.now < 2 ^ 62 }
         ensures some { IfOk result (λ n. 0 < n) }
         ensures within { IfOk result (λ n. n ≤ length bytes.now) }
         ensures went { (taken p l : List ℕ) → HasTaken self.old taken p l
@@ -160,13 +151,13 @@ impl Clocks {
             (taken ++ bytes.now)) result }
         ensures ready { OnOk result (IsReady self.new) }
         ensures link { self.new.link ≡ self.old.link }
-        ensures fed { IfOk result (λ n. bytes_in self.new ≡ bytes_in self.old + n) }
-        ensures calm { OnOk result (Calm (sinks (O.seen pix.old) (O.seen log.old))
-            (sinks (O.seen pix.new) (O.seen log.new))) }
-        ensures cause { IfErr result (λ refusal. LeavesCounts refusal (sinks (O.seen pix.old) (O.seen log.old))
-            (sinks (O.seen pix.new) (O.seen log.new))) }
+        ensures fed { IfOk result (λ n. self.new.fed ≡ self.old.fed + n) }
+        ensures calm { result ≢ Err RecvEnd.WriteFault
+            → Calm (sinks (O.seen pix.old) (O.seen log.old)) (sinks (O.seen pix.new) (O.seen log.new)) }
+        ensures cause { result ≡ Err RecvEnd.WriteFault
+            → OneRose (sinks (O.seen pix.old) (O.seen log.old)) (sinks (O.seen pix.new) (O.seen log.new)) }
     {
-        let wide = self.wide();
+        let wide = 2 * usize::from(self.link.lanes.count());
         if self.left.len() == 0 && bytes.len() >= wide {
             let n = (bytes.len() / wide).min(BATCH) * wide;
             match self.take_whole(rt, &bytes[..n], workers, gate, pix, log) {
@@ -190,9 +181,9 @@ impl Clocks {
         gate: &G,
         pix: &mut O,
         log: &mut O,
-    ) -> Result<(), Refusal>
+    ) -> Result<(), RecvEnd>
         requires ready { IsReady self.old }
-        requires few { bytes_in self.old + length bytes.now < 2 ^ 62 * (2 * lanes_count self.old.link.lanes) }
+        requires few { self.old.fed + length bytes.now < 2 ^ 62 }
         ensures went { (taken p l : List ℕ) → HasTaken self.old taken p l
             → Went (sinks (O.seen pix.old) (O.seen log.old)) (sinks (O.seen pix.new) (O.seen log.new)) p l
             (λ done q m. HasTaken self.new (taken ++ bytes.now) q m)
@@ -204,11 +195,11 @@ impl Clocks {
             (taken ++ bytes.now)) result }
         ensures ready { OnOk result (IsReady self.new) }
         ensures link { self.new.link ≡ self.old.link }
-        ensures fed { OnOk result (bytes_in self.new ≡ bytes_in self.old + length bytes.now) }
-        ensures calm { OnOk result (Calm (sinks (O.seen pix.old) (O.seen log.old))
-            (sinks (O.seen pix.new) (O.seen log.new))) }
-        ensures cause { IfErr result (λ refusal. LeavesCounts refusal (sinks (O.seen pix.old) (O.seen log.old))
-            (sinks (O.seen pix.new) (O.seen log.new))) }
+        ensures fed { OnOk result (self.new.fed ≡ self.old.fed + length bytes.now) }
+        ensures calm { result ≢ Err RecvEnd.WriteFault
+            → Calm (sinks (O.seen pix.old) (O.seen log.old)) (sinks (O.seen pix.new) (O.seen log.new)) }
+        ensures cause { result ≡ Err RecvEnd.WriteFault
+            → OneRose (sinks (O.seen pix.old) (O.seen log.old)) (sinks (O.seen pix.new) (O.seen log.new)) }
     {
         let mut start = 0;
         while start < bytes.len() {
@@ -218,19 +209,5 @@ impl Clocks {
             }
         }
         Ok(())
-    }
-
-    /// The end, where nothing was refused.
-    pub fn finish(&self) -> Result<Received, FinishEnd>
-        requires ready { IsReady self.now }
-        ensures { (taken p l : List ℕ) → HasTaken self.now taken p l → EndsAs self.now.link taken result }
-    {
-        if self.left.len() > 0 {
-            return Err(FinishEnd::Truncated {
-                clock: self.clocks,
-                bytes: self.left.len() as u8,
-            });
-        }
-        self.reader.finish()
     }
 }

@@ -1,4 +1,4 @@
-ghost use Rattle.std.specs.Prelude.{◌≡◌, ◌≤◌, ℕ, List, [], OnOk, OnErr, IfOk, IfErr, length, None, false};
+ghost use Rattle.std.specs.Prelude.{◌≡◌, ◌≤◌, ℕ, List, [], OnOk, OnErr, IfOk, length, None, false};
 ghost use Rattle.std.specs.Io.KnownBytes.{Appends};
 ghost use Rattle.dpx_base.specs.Faults.{HasCause};
 ghost use Rattle.dpx_base.specs.Lanes.{lanes_count};
@@ -7,9 +7,8 @@ ghost use Rattle.dpx_parse.specs.declared.event.Event.{Event};
 ghost use Rattle.dpx_sink.specs.Room.{line_room};
 ghost use Rattle.dpx_sink.specs.Told.{Under, none, Tally, no_tally, after, tallied, records_of, text_of, frames_in};
 ghost use Rattle.dpx_base.specs.Transfer.{AppendsFront};
-ghost use Rattle.dpx_sink.specs.Writes.{Calm, PixelsTook, LogTook, OneFailed, sinks};
+ghost use Rattle.dpx_sink.specs.Writes.{Calm, OneRose, sinks};
 
-use crate::Output;
 use crate::attributes_line::attributes_line;
 use crate::line_store::{LINE_ROOM, LineStore};
 use crate::unpack::LanePixels;
@@ -140,21 +139,21 @@ impl Lines {
     }
 
     /// Takes the next event: a line's pixels are written to `pix` when it ends, and attributes to `log`.
-    pub fn hear<O: Sink>(&mut self, event: Event, pix: &mut O, log: &mut O) -> Result<(), Output>
+    pub fn hear<O: Sink>(&mut self, event: Event, pix: &mut O, log: &mut O) -> Result<(), Failed>
         ensures state { (under : Under) (t : Tally) → Fits event → Holds self.old under t
             → Holds self.new (after under event) (tallied under t event) }
         ensures records { OnOk result ((under : Under) (t : Tally) → Holds self.old under t
             → Appends (O.seen pix.old).taken (O.seen pix.new).taken
             (records_of (lanes_count self.old.lanes) under event)) }
         ensures text { OnOk result (Appends (O.seen log.old).taken (O.seen log.new).taken (text_of event)) }
-        ensures records_front { IfErr result (λ failed. (under : Under) (t : Tally) → Holds self.old under t
-            → PixelsTook failed (O.seen pix.old).taken (O.seen pix.new).taken
+        ensures records_front { OnErr result ((under : Under) (t : Tally) → Holds self.old under t
+            → AppendsFront (O.seen pix.old).taken (O.seen pix.new).taken
             (records_of (lanes_count self.old.lanes) under event)) }
-        ensures text_front { IfErr result (λ failed. LogTook failed (O.seen log.old).taken (O.seen log.new).taken
+        ensures text_front { OnErr result (AppendsFront (O.seen log.old).taken (O.seen log.new).taken
             (text_of event)) }
         ensures calm { OnOk result (Calm (sinks (O.seen pix.old) (O.seen log.old))
             (sinks (O.seen pix.new) (O.seen log.new))) }
-        ensures cause { IfErr result (λ failed. OneFailed failed (sinks (O.seen pix.old) (O.seen log.old))
+        ensures cause { OnErr result (OneRose (sinks (O.seen pix.old) (O.seen log.old))
             (sinks (O.seen pix.new) (O.seen log.new))) }
         ensures lanes { self.new.lanes ≡ self.old.lanes }
     {
@@ -162,10 +161,7 @@ impl Lines {
             Event::Nothing => Ok(()),
             Event::Attributes(attributes) => {
                 self.take_attributes(&attributes);
-                match write_whole(log, attributes_line(&attributes).as_slice()) {
-                    Ok(()) => Ok(()),
-                    Err(_) => Err(Output::Log),
-                }
+                write_whole(log, attributes_line(&attributes).as_slice())
             }
             Event::LineStart => {
                 self.begin();
@@ -175,10 +171,7 @@ impl Lines {
                 self.take(&row);
                 Ok(())
             }
-            Event::LineEnd => match self.end(pix) {
-                Ok(()) => Ok(()),
-                Err(_) => Err(Output::Pixels),
-            },
+            Event::LineEnd => self.end(pix),
         }
     }
 }

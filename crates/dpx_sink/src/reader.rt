@@ -1,6 +1,5 @@
-ghost use Rattle.std.specs.Prelude.{◌≡◌, ◌≢◌, ◌≤◌, ◌<◌, ◌+◌, ◌*◌, ◌^◌, ℕ, List, [], ◌∷◌, ◌++◌, Bool, true, false, Ok};
-ghost use Rattle.std.specs.Prelude.{Err, length};
-ghost use Rattle.std.specs.Prelude.{IfErr, IfOk, OnOk, replicate};
+ghost use Rattle.std.specs.Prelude.{◌≡◌, ◌≢◌, ◌≤◌, ◌<◌, ◌+◌, ◌*◌, ◌^◌, ℕ, List, [], ◌∷◌, ◌++◌, Bool, true, false, Ok, Err, length};
+ghost use Rattle.std.specs.Prelude.{IfOk, OnOk, replicate};
 ghost use Rattle.dpx_align.specs.Aligner.{lanes_of, is_enhanced, clocks_fed, CanFeed, waiting};
 ghost use Rattle.dpx_align.specs.declared.align_bad.AlignBad.{AlignBad};
 ghost use Rattle.dpx_base.specs.Lanes.{lanes_count};
@@ -10,11 +9,10 @@ ghost use Rattle.dpx_parse.specs.Parser.{enhanced_of};
 ghost use Rattle.dpx_parse.specs.Parser as parser;
 ghost use Rattle.dpx_sink.specs.Reader.{Framing, HasRead, IsNext, HasReadWhole, HasBadWord, HasBadSet, HasSome, Agrees};
 ghost use Rattle.dpx_sink.specs.Reader.{ReadEnds};
-ghost use Rattle.dpx_sink.specs.Writes.{Went, Calm, LeavesCounts, sinks};
+ghost use Rattle.dpx_sink.specs.Writes.{Went, Calm, OneRose, sinks};
 
 use crate::lines::Lines;
-use crate::refusal::Refusal;
-use crate::{FinishEnd, Received};
+use crate::{FinishEnd, Received, RecvEnd};
 use dpx_align::{Aligner, Step};
 use dpx_base::{Gate, LaneSet, Link, Memory, Sink, Workers};
 use dpx_lane::LaneRows;
@@ -31,6 +29,8 @@ pub(crate) struct Reader {
 }
 
 impl Reader {
+    ghost use Rattle.dpx_sink.specs.declared.recv_end.RecvEnd.{RecvEnd};
+
     /// Takes all its memory, and has read nothing.
     pub fn new(alloc: Global, link: Link) -> Result<Reader, Memory>
         ensures start { IfOk result (λ reader.
@@ -48,7 +48,7 @@ impl Reader {
     }
 
     /// Reads a set that the aligner gave.
-    fn read<O: Sink>(&mut self, set: &LaneSet, pix: &mut O, log: &mut O) -> Result<(), Refusal>
+    fn read<O: Sink>(&mut self, set: &LaneSet, pix: &mut O, log: &mut O) -> Result<(), RecvEnd>
         requires lanes { length set.now ≡ lanes_count (parser.lanes_of self.old.parser) }
         ensures went { (f : Framing) (words : List (List ℕ)) (p l : List ℕ) → Agrees f self.old
             → IsNext f self.old words set.now p l
@@ -57,22 +57,22 @@ impl Reader {
             (λ q m. HasSome f words q m) result }
         ensures agrees { (f : Framing) → Agrees f self.old → Agrees f self.new }
         ensures aligner { self.new.aligner ≡ self.old.aligner }
-        ensures calm { OnOk result (Calm (sinks (O.seen pix.old) (O.seen log.old))
-            (sinks (O.seen pix.new) (O.seen log.new))) }
-        ensures cause { IfErr result (λ refusal. LeavesCounts refusal (sinks (O.seen pix.old) (O.seen log.old))
-            (sinks (O.seen pix.new) (O.seen log.new))) }
+        ensures calm { result ≢ Err RecvEnd.WriteFault
+            → Calm (sinks (O.seen pix.old) (O.seen log.old)) (sinks (O.seen pix.new) (O.seen log.new)) }
+        ensures cause { result ≡ Err RecvEnd.WriteFault
+            → OneRose (sinks (O.seen pix.old) (O.seen log.old)) (sinks (O.seen pix.new) (O.seen log.new)) }
     {
         match self.parser.feed(set) {
             Ok(event) => match self.lines.hear(event, pix, log) {
                 Ok(()) => Ok(()),
-                Err(failed) => Err(Refusal::Write(failed)),
+                Err(_) => Err(RecvEnd::WriteFault),
             },
-            Err(bad) => Err(Refusal::Set(bad)),
+            Err(bad) => Err(RecvEnd::Parse(bad)),
         }
     }
 
     /// One step: a set is read, or no further one is complete.
-    fn advance<O: Sink>(&mut self, pix: &mut O, log: &mut O) -> Result<bool, Refusal>
+    fn advance<O: Sink>(&mut self, pix: &mut O, log: &mut O) -> Result<bool, RecvEnd>
         requires lanes { lanes_of self.old.aligner ≡ parser.lanes_of self.old.parser }
         ensures went { (f : Framing) (words : List (List ℕ)) (p l : List ℕ) → Agrees f self.old
             → HasRead f self.old words p l
@@ -85,14 +85,14 @@ impl Reader {
             → CanFeed self.new.aligner × (waiting self.new.aligner ≡ waiting self.old.aligner)) }
         ensures agrees { (f : Framing) → Agrees f self.old → Agrees f self.new }
         ensures fed { clocks_fed self.new.aligner ≡ clocks_fed self.old.aligner }
-        ensures calm { OnOk result (Calm (sinks (O.seen pix.old) (O.seen log.old))
-            (sinks (O.seen pix.new) (O.seen log.new))) }
-        ensures cause { IfErr result (λ refusal. LeavesCounts refusal (sinks (O.seen pix.old) (O.seen log.old))
-            (sinks (O.seen pix.new) (O.seen log.new))) }
+        ensures calm { result ≢ Err RecvEnd.WriteFault
+            → Calm (sinks (O.seen pix.old) (O.seen log.old)) (sinks (O.seen pix.new) (O.seen log.new)) }
+        ensures cause { result ≡ Err RecvEnd.WriteFault
+            → OneRose (sinks (O.seen pix.old) (O.seen log.old)) (sinks (O.seen pix.new) (O.seen log.new)) }
     {
         let step = match self.aligner.step() {
             Ok(step) => step,
-            Err(bad) => return Err(Refusal::Word(bad)),
+            Err(bad) => return Err(RecvEnd::Align(bad)),
         };
         match &step {
             Step::Hungry => Ok(false),
@@ -104,7 +104,7 @@ impl Reader {
     }
 
     /// Reads all sets that are complete, up to the first fault.
-    fn pump<O: Sink>(&mut self, pix: &mut O, log: &mut O) -> Result<(), Refusal>
+    fn pump<O: Sink>(&mut self, pix: &mut O, log: &mut O) -> Result<(), RecvEnd>
         requires agrees { (f : Framing) × Agrees f self.old }
         ensures went { (f : Framing) (words : List (List ℕ)) (p l : List ℕ) → Agrees f self.old
             → HasRead f self.old words p l
@@ -115,10 +115,10 @@ impl Reader {
         ensures rested { OnOk result (CanFeed self.new.aligner) }
         ensures agrees { (f : Framing) → Agrees f self.old → Agrees f self.new }
         ensures fed { clocks_fed self.new.aligner ≡ clocks_fed self.old.aligner }
-        ensures calm { OnOk result (Calm (sinks (O.seen pix.old) (O.seen log.old))
-            (sinks (O.seen pix.new) (O.seen log.new))) }
-        ensures cause { IfErr result (λ refusal. LeavesCounts refusal (sinks (O.seen pix.old) (O.seen log.old))
-            (sinks (O.seen pix.new) (O.seen log.new))) }
+        ensures calm { result ≢ Err RecvEnd.WriteFault
+            → Calm (sinks (O.seen pix.old) (O.seen log.old)) (sinks (O.seen pix.new) (O.seen log.new)) }
+        ensures cause { result ≡ Err RecvEnd.WriteFault
+            → OneRose (sinks (O.seen pix.old) (O.seen log.old)) (sinks (O.seen pix.new) (O.seen log.new)) }
     {
         let mut more = true;
         while more {
@@ -139,7 +139,7 @@ impl Reader {
         gate: &G,
         pix: &mut O,
         log: &mut O,
-    ) -> Result<(), Refusal>
+    ) -> Result<(), RecvEnd>
         requires agrees { Agrees (record { enhanced = is_enhanced self.old.aligner; lanes = rows.old.lanes }) self.old }
         requires rested { CanFeed self.old.aligner }
         requires few { clocks_fed self.old.aligner + rows.old.clocks < 2 ^ 62 }
@@ -154,10 +154,10 @@ impl Reader {
         ensures agrees { (f : Framing) → Agrees f self.old → Agrees f self.new }
         ensures rows { rows.new.lanes ≡ rows.old.lanes }
         ensures fed { clocks_fed self.new.aligner ≡ clocks_fed self.old.aligner + rows.old.clocks }
-        ensures calm { OnOk result (Calm (sinks (O.seen pix.old) (O.seen log.old))
-            (sinks (O.seen pix.new) (O.seen log.new))) }
-        ensures cause { IfErr result (λ refusal. LeavesCounts refusal (sinks (O.seen pix.old) (O.seen log.old))
-            (sinks (O.seen pix.new) (O.seen log.new))) }
+        ensures calm { result ≢ Err RecvEnd.WriteFault
+            → Calm (sinks (O.seen pix.old) (O.seen log.old)) (sinks (O.seen pix.new) (O.seen log.new)) }
+        ensures cause { result ≡ Err RecvEnd.WriteFault
+            → OneRose (sinks (O.seen pix.old) (O.seen log.old)) (sinks (O.seen pix.new) (O.seen log.new)) }
     {
         self.aligner.feed(rt, rows, workers, gate);
         self.pump(pix, log)

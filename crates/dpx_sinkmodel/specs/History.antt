@@ -12,7 +12,7 @@ use Rattle.dpx_dpcd.specs.SinkPlan.{planned}
 
 -- how many entries are kept
 abbrev pub entries_at_most : ℕ
-entries_at_most = 262144
+entries_at_most = 4096
 
 -- the entries are told while all of them are kept
 abbrev pub told_while : Bool → List Entry → Option (List Entry)

@@ -13,7 +13,7 @@ use dpx_dpcd::{AnswerList, LoadPort, SinkPlan};
 use std::alloc::Global;
 
 /// How many entries of the history are kept: this project's own number.
-const ENTRIES: usize = 262_144;
+const ENTRIES: usize = 4096;
 
 /// An AUX port that answers as it is told to, and keeps its history.
 #[derive(Drop)]
@@ -58,7 +58,7 @@ impl PlanPort {
         })
     }
 
-    /// The entries that are kept: the first 262,144, room for the events of any job.
+    /// The entries that are kept: the first 4,096.
     pub fn history(&self) -> &[Entry]
         ensures kept { result.now ≡ entries_of self.now }
         ensures told { IfSome (state_of self.now).history (λ entries. result.now ≡ entries) }

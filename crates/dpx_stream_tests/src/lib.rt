@@ -1,5 +1,4 @@
-//! Tests of layers of the main link: the schedule, the ticker, whole sends, the aligner, the reader of sets, and whole
-//! captures received.
+//! Tests of layers of the main link: the schedule, the ticker, whole sends, the aligner, and the reader of sets.
 #![tactic(auto)]
 
 #[cfg(test)]
@@ -10,8 +9,6 @@ mod frame;
 mod modes;
 #[cfg(test)]
 mod parse;
-#[cfg(test)]
-mod receive;
 #[cfg(test)]
 mod send;
 #[cfg(test)]

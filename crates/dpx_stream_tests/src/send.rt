@@ -37,7 +37,7 @@ fn begin(rt: &impl Abort, alloc: Global, plan: &Plan, pipe: &mut MemPipe)
 }
 
 /// Sends what the pipe holds.
-pub(crate) fn send<R: Abort + Threads + Sync>(
+fn send<R: Abort + Threads + Sync>(
     rt: &R,
     alloc: Global,
     plan: &Plan,

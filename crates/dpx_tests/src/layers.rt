@@ -24,7 +24,6 @@ mod pipe;
 mod register_file;
 mod sinkmodel;
 mod timing;
-mod watch;
 
 /// The channel behaves so at this rate on this lane.
 pub(crate) fn behaves(rt: &impl Abort, channel: &Channel, rate: Rate, lane: u8, cell: Cell)

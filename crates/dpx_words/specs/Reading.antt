@@ -8,7 +8,7 @@ use Rattle.dpx_base.specs.declared.workers.Workers.{Workers}
 use Rattle.dpx_base.specs.declared.workers.Workers.TheVariants.{One, Lanes}
 use Rattle.dpx_words.specs.Dashes.{has_dash}
 use Rattle.dpx_words.specs.declared.command.Command.{Command}
-use Rattle.dpx_words.specs.declared.command.Command.TheVariants.{Train, Send, Run, Recv, Watch}
+use Rattle.dpx_words.specs.declared.command.Command.TheVariants.{Train, Send, Run, Edid}
 use Rattle.dpx_words.specs.declared.command.WordsEnd.{WordsEnd}
 use Rattle.dpx_words.specs.declared.command.WordsEnd.TheVariants.{Usage, Memory}
 use Rattle.dpx_words.specs.declared.verbs.Sending.{Sending}
@@ -25,17 +25,14 @@ workers_of [] = Some Lanes
 workers_of (word ∷ []) = workers_named word
 workers_of _ = None
 
--- the one word that there is
-abbrev pub only_of : List (List ℕ) → Option (List ℕ)
-only_of (word ∷ []) = Some word
-only_of _ = None
-
 -- the words behind the first one of each command
-abbrev pub train_of : List (List ℕ) → Option Command
-train_of rest = option_map (λ job. Train job) (only_of rest)
+-- one word, a job
+abbrev pub job_alone : List (List ℕ) → Option (List ℕ)
+job_alone (job ∷ []) = Some job
+job_alone _ = None
 
-abbrev pub watch_of : List (List ℕ) → Option Command
-watch_of rest = option_map (λ job. Watch job) (only_of rest)
+abbrev pub train_of : List (List ℕ) → Option Command
+train_of rest = option_map (λ job. Train job) (job_alone rest)
 
 abbrev pub sending_of : List (List ℕ) → Option Sending
 sending_of (job ∷ pixels ∷ capture ∷ rest) =
@@ -48,9 +45,8 @@ send_of rest = option_map (λ words. Send words.job words.pixels words.capture w
 abbrev pub run_of : List (List ℕ) → Option Command
 run_of rest = option_map (λ words. Run words.job words.pixels words.capture words.workers) (sending_of rest)
 
-abbrev pub recv_of : List (List ℕ) → Option Command
-recv_of (capture ∷ pixels ∷ rest) = option_map (λ workers. Recv capture pixels workers) (workers_of rest)
-recv_of _ = None
+abbrev pub edid_of : List (List ℕ) → Option Command
+edid_of rest = option_map (λ job. Edid job) (job_alone rest)
 
 -- the command of words of which none begins with a dash
 abbrev pub command_of : List (List ℕ) → Option Command
@@ -59,8 +55,7 @@ command_of (verb ∷ rest) =
     if bytes_eq verb (codes "train") then train_of rest
     else if bytes_eq verb (codes "send") then send_of rest
     else if bytes_eq verb (codes "run") then run_of rest
-    else if bytes_eq verb (codes "recv") then recv_of rest
-    else if bytes_eq verb (codes "watch") then watch_of rest
+    else if bytes_eq verb (codes "edid") then edid_of rest
     else None
 
 -- the command that the words ask for, if they have a reading

@@ -56,16 +56,8 @@ pub enum Command {
         capture: Name,
         workers: Workers,
     },
-    /// Read a capture back into pixels.
-    Recv {
-        capture: Name,
-        pixels: Name,
-        workers: Workers,
-    },
-    /// Supervise the job's link through its events.
-    Watch {
-        job: Name,
-    },
+    /// Fetch the EDID of the job's sink.
+    Edid { job: Name },
 }
 
 /// Why words are not read.

@@ -1,5 +1,5 @@
 ghost use Rattle.std.specs.Prelude.{map};
-ghost use Rattle.dpx_words.specs.Reading.{WordsRead, train_of, sending_of, send_of, run_of, recv_of, command_of, only_of, watch_of};
+ghost use Rattle.dpx_words.specs.Reading.{WordsRead, job_alone, train_of, sending_of, send_of, run_of, edid_of, command_of};
 
 use crate::arguments::read_workers;
 use crate::{Command, Name, WordsEnd};
@@ -17,15 +17,14 @@ pub(crate) fn read_command(alloc: Global, words: &[&str]) -> Result<Command, Wor
         "train" => read_train(alloc, rest),
         "send" => read_send(alloc, rest),
         "run" => read_run(alloc, rest),
-        "recv" => read_recv(alloc, rest),
-        "watch" => read_watch(alloc, rest),
+        "edid" => read_edid(alloc, rest),
         _ => Err(WordsEnd::Usage),
     }
 }
 
-/// The one word of a command that needs no more than a job.
-fn read_only(alloc: Global, rest: &[&str]) -> Result<Name, WordsEnd>
-    ensures { WordsRead (only_of (map (λ word. word.now) rest.now)) result }
+/// The one word of a command that is handed a job alone.
+fn read_job_alone(alloc: Global, rest: &[&str]) -> Result<Name, WordsEnd>
+    ensures { WordsRead (job_alone (map (λ word. word.now) rest.now)) result }
 {
     if rest.len() != 1 {
         return Err(WordsEnd::Usage);
@@ -36,15 +35,8 @@ fn read_only(alloc: Global, rest: &[&str]) -> Result<Name, WordsEnd>
 fn read_train(alloc: Global, rest: &[&str]) -> Result<Command, WordsEnd>
     ensures { WordsRead (train_of (map (λ word. word.now) rest.now)) result }
 {
-    let job = read_only(alloc, rest)?;
+    let job = read_job_alone(alloc, rest)?;
     Ok(Command::Train { job })
-}
-
-fn read_watch(alloc: Global, rest: &[&str]) -> Result<Command, WordsEnd>
-    ensures { WordsRead (watch_of (map (λ word. word.now) rest.now)) result }
-{
-    let job = read_only(alloc, rest)?;
-    Ok(Command::Watch { job })
 }
 
 /// The words of a command that sends, behind the first one.
@@ -97,18 +89,9 @@ fn read_run(alloc: Global, rest: &[&str]) -> Result<Command, WordsEnd>
     })
 }
 
-fn read_recv(alloc: Global, rest: &[&str]) -> Result<Command, WordsEnd>
-    ensures { WordsRead (recv_of (map (λ word. word.now) rest.now)) result }
+fn read_edid(alloc: Global, rest: &[&str]) -> Result<Command, WordsEnd>
+    ensures { WordsRead (edid_of (map (λ word. word.now) rest.now)) result }
 {
-    if rest.len() < 2 {
-        return Err(WordsEnd::Usage);
-    }
-    let Some(workers) = read_workers(&rest[2..]) else {
-        return Err(WordsEnd::Usage);
-    };
-    Ok(Command::Recv {
-        capture: Name::new(alloc, rest[0])?,
-        pixels: Name::new(alloc, rest[1])?,
-        workers,
-    })
+    let job = read_job_alone(alloc, rest)?;
+    Ok(Command::Edid { job })
 }

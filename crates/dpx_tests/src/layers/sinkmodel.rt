@@ -85,12 +85,12 @@ fn asks_are_answered_past_the_entries_that_are_kept(rt: HostRuntime) -> Result<(
     let mut port = PlanPort::new(rt.alloc())?;
     port.load(sink(1));
     asks(&rt, &mut port, &READ, &[0x20]);
-    for _ in 0..262_143 {
+    for _ in 0..4095 {
         port.wait(400);
     }
-    has(&rt, &port, 1, 262_144);
+    has(&rt, &port, 1, 4096);
     asks(&rt, &mut port, &READ, &[0x00, 0x12]);
     asks(&rt, &mut port, &READ, &[0x20]);
-    has(&rt, &port, 3, 262_144);
+    has(&rt, &port, 3, 4096);
     Ok(())
 }

@@ -1,10 +1,8 @@
 use Rattle.std.proofs.Common.{refl}
-use Rattle.dpx_cli.proofs.Recvs.{CaptureLaws, unread_words_recv}
+use Rattle.dpx_cli.proofs.Edids.{unread_words_edid}
 use Rattle.dpx_cli.proofs.Runs.{unread_words_run}
 use Rattle.dpx_cli.proofs.Sends.{unread_words_send}
 use Rattle.dpx_cli.proofs.Trainings.{unread_words_do}
-use Rattle.dpx_cli.proofs.Reportings.{unread_words_report}
-use Rattle.dpx_cli.proofs.Watches.{events_are_reports}
 use Rattle.dpx_cli.proofs.commands.replay_gated.Goals as goal
 
 pub returns-clause-train : goal.returns-clause-train
@@ -20,18 +18,5 @@ returns-clause-run g c asked =
     unread_words_run _ _ _ _ _ _ c.a_capture_is_one.ensures (λ kept. (refl, refl)) _ _ refl (refl, refl) refl
     c.print_stop-in-Err-Memory.ensures
 
-pub returns-clause-recv : goal.returns-clause-recv
-returns-clause-recv g c asked =
-    let laws : CaptureLaws = record {
-      headers = c.headers_come_back.ensures;
-      one_end = c.one_end.ensures;
-      one_reception = c.one_reception.ensures;
-      faults_stay = c.faults_stay.ensures;
-      received = c.captures_are_received.ensures;
-      written = c.a_capture_is_received.ensures;
-    } in
-    unread_words_recv laws _ _ _ (λ kept. refl) _ _ refl refl c.print_stop-in-Err-Memory.ensures
-
-pub returns-clause-watch : goal.returns-clause-watch
-returns-clause-watch g c asked =
-    unread_words_report _ _ _ _ _ (events_are_reports _ _) _ _ refl refl c.print_stop-in-Err-Memory.ensures
+pub returns-clause-edid : goal.returns-clause-edid
+returns-clause-edid g c asked = unread_words_edid _ _ _ _ _ refl refl c.print_stop-in-Err-Memory.ensures

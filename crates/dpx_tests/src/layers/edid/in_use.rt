@@ -5,8 +5,8 @@ use dpx_base::{Depth, Mode, RawMode};
 use dpx_edid::{read_timing, write_timing};
 use std::process::Abort;
 
-/// Along a line and along a frame: what is shown, the front, the sync pulse and what is behind it, and whether the pulse is
-/// negative; then the clock.
+/// Along a line and along a frame: what is shown, the front, the sync pulse and what is behind it, and whether the
+/// pulse is negative; then the clock.
 type Row = ([u32; 4], bool, [u32; 4], bool, u32);
 
 const MODES: [Row; 40] = [

@@ -238,130 +238,67 @@ fn polarities_are_those_of_digital_separate_pulses(rt: HostRuntime) {
     }
 }
 
-/// 1920 × 1080 pixels, with these fields changed by the function, has a timing or none.
-fn has_timing(rt: &impl Abort, raw: &RawMode, has: bool) {
-    let mode = Mode::read(raw).expect(rt, "a legal mode");
+/// The fields of the greatest mode that has a timing, in the order of a mode.
+const GREATEST: [u32; 9] = [4095, 4095, 8190, 8190, 1023, 3072, 63, 4032, 655_350];
+
+/// The greatest mode with these of its fields changed has a timing or none.
+fn has_timing(rt: &impl Abort, changes: &[(usize, u32)], depth: Depth, has: bool) {
+    let mut fields = GREATEST;
+    for (place, number) in changes {
+        if let Some(old) = fields.get_mut(*place) {
+            *old = *number;
+        }
+    }
+    let [
+        width,
+        height,
+        htotal,
+        vtotal,
+        hsw,
+        hstart,
+        vsw,
+        vstart,
+        clock_khz,
+    ] = fields;
+    let raw = RawMode {
+        width,
+        height,
+        htotal,
+        vtotal,
+        hsw,
+        hstart,
+        vsw,
+        vstart,
+        hsp: false,
+        vsp: false,
+        clock_khz,
+        depth,
+    };
+    let mode = Mode::read(&raw).expect(rt, "a legal mode");
     assert_eq!(rt; write_timing(&mode).is_some(), has, "{raw:?}");
 }
 
-const RAW: RawMode = RawMode {
-    width: 4095,
-    height: 4095,
-    htotal: 8190,
-    vtotal: 8190,
-    hsw: 1023,
-    hstart: 3072,
-    vsw: 63,
-    vstart: 4032,
-    hsp: false,
-    vsp: false,
-    clock_khz: 655_350,
-    depth: Depth::Eight,
-};
-
 #[test]
 fn a_mode_past_the_bits_has_no_timing(rt: HostRuntime) {
-    has_timing(&rt, &RAW, true);
-    has_timing(
-        &rt,
-        &RawMode {
-            clock_khz: 655_360,
-            ..RAW
-        },
-        false,
-    );
-    has_timing(
-        &rt,
-        &RawMode {
-            clock_khz: 655_345,
-            ..RAW
-        },
-        false,
-    );
-    has_timing(
-        &rt,
-        &RawMode {
-            clock_khz: 10,
-            ..RAW
-        },
-        true,
-    );
-    has_timing(
-        &rt,
-        &RawMode {
-            clock_khz: 9,
-            ..RAW
-        },
-        false,
-    );
-    has_timing(
-        &rt,
-        &RawMode {
-            depth: Depth::Six,
-            ..RAW
-        },
-        false,
-    );
-    has_timing(
-        &rt,
-        &RawMode {
-            depth: Depth::Ten,
-            ..RAW
-        },
-        false,
-    );
-    has_timing(
-        &rt,
-        &RawMode {
-            width: 4096,
-            htotal: 8191,
-            ..RAW
-        },
-        false,
-    );
-    has_timing(
-        &rt,
-        &RawMode {
-            htotal: 8191,
-            hstart: 3073,
-            ..RAW
-        },
-        false,
-    );
-    has_timing(
-        &rt,
-        &RawMode {
-            height: 4096,
-            vtotal: 8191,
-            ..RAW
-        },
-        false,
-    );
-    has_timing(
-        &rt,
-        &RawMode {
-            vtotal: 8191,
-            vstart: 4033,
-            ..RAW
-        },
-        false,
-    );
-    has_timing(
-        &rt,
-        &RawMode {
-            hstart: 3071,
-            ..RAW
-        },
-        false,
-    );
-    has_timing(&rt, &RawMode { hsw: 1024, ..RAW }, false);
-    has_timing(
-        &rt,
-        &RawMode {
-            vstart: 4031,
-            ..RAW
-        },
-        false,
-    );
-    has_timing(&rt, &RawMode { vsw: 64, ..RAW }, false);
+    let rows: [(&[(usize, u32)], bool); 13] = [
+        (&[], true),
+        (&[(8, 655_360)], false),
+        (&[(8, 655_345)], false),
+        (&[(8, 10)], true),
+        (&[(8, 9)], false),
+        (&[(0, 4096), (2, 8191)], false),
+        (&[(2, 8191), (5, 3073)], false),
+        (&[(1, 4096), (3, 8191)], false),
+        (&[(3, 8191), (7, 4033)], false),
+        (&[(5, 3071)], false),
+        (&[(4, 1024)], false),
+        (&[(7, 4031)], false),
+        (&[(6, 64)], false),
+    ];
+    for (changes, has) in rows {
+        has_timing(&rt, changes, Depth::Eight, has);
+    }
+    for depth in [Depth::Six, Depth::Ten, Depth::Twelve, Depth::Sixteen] {
+        has_timing(&rt, &[], depth, false);
+    }
 }

@@ -1,4 +1,4 @@
-use Rattle.std.proofs.Common.{◌<◌, ℕ, [], sym, subst, arith, ap, length}
+use Rattle.std.proofs.Common.{◌<◌, ℕ, [], sym, subst, refl, arith, ap, length}
 use Rattle.dpx_base.specs.Lanes.{lanes_count}
 use Rattle.dpx_reception.proofs.Grown.{some_lanes}
 use Rattle.dpx_sink.specs.Clocks.{framing_of}
@@ -18,7 +18,7 @@ returns-clause-nothing c =
         whole = omega arith;
         short = omega (arith, some, ap length c.new.ensures);
       };
-      fed = omega (arith, ap length c.new.ensures);
+      fed = refl;
       read = subst (λ w. HasReadWhole (framing_of c.args.link) c.in_ok-new-2.field-0 w [] []) (sym (no_received lanes))
           c.in_ok-new-2.ensures.start;
     }

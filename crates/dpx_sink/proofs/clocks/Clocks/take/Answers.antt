@@ -3,7 +3,7 @@ use Rattle.std.proofs.lemmas.List.{append-nil, take_all, take_rest}
 use Rattle.dpx_sink.specs.Clocks.{InFront, framing_of}
 use Rattle.dpx_sink.specs.Reader.{HasBadWord, HasBadSet, HasSome}
 use Rattle.dpx_sink.proofs.Batches.{go_on, all_of}
-use Rattle.dpx_sink.proofs.Writes.{nothing_wrote, wrote_so, wrote_on, went_on, refused_map, cause_on}
+use Rattle.dpx_sink.proofs.Writes.{nothing_wrote, wrote_so, wrote_on, went_on, refused_map}
 use Rattle.dpx_sink.proofs.clocks.Clocks.take.Goals as goal
 
 pub loop-start-init : goal.loop-start-init
@@ -23,13 +23,7 @@ loop-start-preserved g c =
     let bytes : List ℕ = c.args.bytes.now in
     let before = c.loop-start.invariant in
     record {
-      within = omega (
-        arith,
-        before.within,
-        c.in-Ok.ensures.within,
-        ap length (take_rest bytes start),
-        length-drop start bytes,
-      );
+      within = omega (arith, before.within, c.in-Ok.ensures.within, ap length (take_rest bytes start), length-drop start bytes);
       wrote = λ taken p l st. wrote_on _ _ _ p l _ _ (before.wrote taken p l st)
           (λ q m h. wrote_so _ _ q m _ _ (c.in-Ok.ensures.went (taken ++ take start bytes) q m h)
           (λ r k now. rw (← go_on taken bytes start n) now));
@@ -37,7 +31,7 @@ loop-start-preserved g c =
       link = c.turn.ensures.link ∙ before.link;
       fed = omega (arith, before.fed, c.in-Ok.ensures.fed);
       calm =
-          let calm = c.in-Ok.ensures.calm in
+          let calm = c.in-Ok.ensures.calm (λ same. cc) in
           record { pix = calm.pix ∙ before.calm.pix; log = calm.log ∙ before.calm.log };
     }
 
@@ -52,11 +46,9 @@ returns-in-Err-clause-went g c = λ taken p l st.
     went_on _ _ _ p l _ _ _ _ c.in-Err.end (c.loop-start.invariant.wrote taken p l st)
     (λ q m h. refused_map _ _ q m _ _ _ _ _ _ c.in-Err.end
     (λ bad r k now. subst (λ x. InFront x (λ w. HasBadWord (framing_of x) w bad r k) (taken ++ bytes)) same
-    (subst (λ xs. InFront c.loop-start.self.link
-    (λ w. HasBadWord (framing_of c.loop-start.self.link) w bad r k) xs) all now))
+    (subst (λ xs. InFront c.loop-start.self.link (λ w. HasBadWord (framing_of c.loop-start.self.link) w bad r k) xs) all now))
     (λ bad r k now. subst (λ x. InFront x (λ w. HasBadSet (framing_of x) w bad r k) (taken ++ bytes)) same
-    (subst (λ xs. InFront c.loop-start.self.link
-    (λ w. HasBadSet (framing_of c.loop-start.self.link) w bad r k) xs) all now))
+    (subst (λ xs. InFront c.loop-start.self.link (λ w. HasBadSet (framing_of c.loop-start.self.link) w bad r k) xs) all now))
     (λ r k now. subst (λ x. InFront x (λ w. HasSome (framing_of x) w r k) (taken ++ bytes)) same
     (subst (λ xs. InFront c.loop-start.self.link (λ w. HasSome (framing_of c.loop-start.self.link) w r k) xs) all now))
     (c.in-Err.ensures.went (taken ++ take start bytes) q m h))
@@ -64,9 +56,5 @@ returns-in-Err-clause-went g c = λ taken p l st.
 pub returns-clause-went : goal.returns-clause-went
 returns-clause-went g c = λ taken p l st.
     let bytes : List ℕ = c.args.bytes.now in
-    let all : take c.loop-start.start bytes ≡ bytes =
-    take_all c.loop-start.start bytes (omega (arith, c.loop-start-test.false)) in
+    let all : take c.loop-start.start bytes ≡ bytes = take_all c.loop-start.start bytes (omega (arith, c.loop-start-test.false)) in
     wrote_so _ _ p l _ _ (c.loop-start.invariant.wrote taken p l st) (λ q m h. rw (← all) h)
-
-pub returns-in-Err-clause-cause : goal.returns-in-Err-clause-cause
-returns-in-Err-clause-cause g c = cause_on c.in-Err.end _ _ _ c.loop-start.invariant.calm c.in-Err.ensures.cause

@@ -1,5 +1,6 @@
 use Rattle.std.proofs.Common.{◌≡◌, ◌∙◌, ◌<◌, ◌*◌, ◌/◌, ◌+◌, ◌++◌, ◌∷◌, ℕ, List, [], length, sym, ap, subst, arith}
 use Rattle.std.proofs.Common.{length-append}
+use Rattle.dpx_align.specs.Aligner.{clocks_fed}
 use Rattle.dpx_base.specs.Capture.{words_in}
 use Rattle.dpx_base.specs.Lanes.{lanes_count}
 use Rattle.dpx_lane.specs.Team.{joined}
@@ -7,36 +8,22 @@ use Rattle.dpx_reception.proofs.Grown.{some_lanes}
 use Rattle.dpx_reception.specs.Bytes.{received_words}
 use Rattle.dpx_sink.specs.Clocks.{IsCut, framing_of}
 use Rattle.dpx_sink.specs.Reader.{HasReadWhole, HasBadWord, HasBadSet, HasSome}
-use Rattle.dpx_sink.proofs.Batches.{batch_words, has_read, cut_on, read_on, in_front, on_ok, bytes_on, few_clocks}
-use Rattle.dpx_sink.proofs.Batches.{one_more, one_clock}
+use Rattle.dpx_sink.proofs.Batches.{batch_words, has_read, cut_on, read_on, in_front, on_ok, fed_on, one_clock}
 use Rattle.dpx_sink.proofs.Cuts.{kept_byte}
 use Rattle.dpx_sink.proofs.Writes.{nothing_wrote, went_map}
 use Rattle.dpx_sink.proofs.clocks.Clocks.take_byte.Goals as goal
 
-pub returns-then-len-wide-clause-went : goal.returns-then-len-wide-clause-went
-returns-then-len-wide-clause-went g c = λ bytes p l st.
+pub returns-then-len-from-clause-went : goal.returns-then-len-from-clause-went
+returns-then-len-from-clause-went g c = λ bytes p l st.
     let lanes : ℕ = lanes_count c.args.self.now.link.lanes in
     let left : List ℕ = c.args.self.now.left.items in
     let more : length left + 1 < 2 * lanes =
-    omega (
-      arith,
-      c.if-len-wide.true,
-      c.len.ensures.value,
-      c.wide.ensures,
-      ap length c.push.ensures.items,
-      length-append left (c.args.byte ∷ []),
-    ) in
+    omega (arith, c.if-len-from.true, c.len.ensures.value, c.from.ensures, c.count.ensures, ap length c.push.ensures.items, length-append left (c.args.byte ∷ [])) in
     nothing_wrote _ p l _ (record {
       done = st.done;
       cut = subst (λ xs. IsCut lanes (bytes ++ c.args.byte ∷ []) st.done xs) (sym c.push.ensures.items)
           (kept_byte lanes bytes st.done left c.args.byte st.cut more);
-      fed = omega (
-        arith,
-        st.fed,
-        ap length c.push.ensures.items,
-        length-append left (c.args.byte ∷ []),
-        length-append bytes (c.args.byte ∷ []),
-      );
+      fed = ap (λ k. k + 1) st.fed ∙ sym (length-append bytes (c.args.byte ∷ []));
       read = st.read;
     })
 
@@ -49,19 +36,10 @@ returns-clause-went g c = λ bytes p l st.
     let piece : List ℕ = c.args.byte ∷ [] in
     let is : c.as_slice.result.now ≡ left ++ piece = c.as_slice.ensures.value ∙ c.push.ensures.items in
     let whole : length (left ++ piece) ≡ 1 * (2 * lanes) =
-    omega (
-      arith,
-      c.requires.ready.short,
-      c.if-len-wide.false,
-      c.len.ensures.value,
-      c.wide.ensures,
-      ap length c.push.ensures.items,
-      length-append left piece,
-    ) in
+    omega (arith, c.requires.ready.short, c.if-len-from.false, c.len.ensures.value, c.from.ensures, c.count.ensures, ap length c.push.ensures.items, length-append left piece) in
     let rows : c.read_words.new.self.rows ≡ received_words lanes (left ++ piece) =
     ap (λ r. r.rows) c.read_words.ensures
-    ∙ (ap (λ k. words_in (lanes_count k)
-    (length c.as_slice.result.now / (2 * lanes_count k)) c.as_slice.result.now) c.requires.ready.rows
+    ∙ (ap (λ k. words_in (lanes_count k) (length c.as_slice.result.now / (2 * lanes_count k)) c.as_slice.result.now) c.requires.ready.rows
     ∙ (batch_words lanes c.as_slice.result.now ∙ ap (received_words lanes) is)) in
     let words = received_words lanes st.done in
     let same : joined words c.read_words.new.self.rows ≡ joined words (received_words lanes (left ++ piece)) =
@@ -71,9 +49,7 @@ returns-clause-went g c = λ bytes p l st.
       done = st.done ++ (left ++ piece);
       cut = subst (λ xs. IsCut lanes (bytes ++ piece) (st.done ++ (left ++ piece)) xs) (sym c.clear.ensures)
           (cut_on link 1 bytes st.done left piece st.cut whole);
-      fed = bytes_on c.args.self.now.clocks 1 (2 * lanes) (length left) (length c.clear.new.self.items) (length bytes) 1
-          st.fed (omega (arith, whole, length-append left piece, ap length c.clear.ensures))
-          ∙ sym (length-append bytes piece);
+      fed = ap (λ k. k + 1) st.fed ∙ sym (length-append bytes piece);
       read = read_on link 1 bytes st.done left piece st.cut whole c.batch.new.self q m
           (subst (λ w. HasReadWhole f c.batch.new.self w q m) same h);
     })
@@ -96,15 +72,7 @@ returns-clause-ready g c =
     let size : length c.as_slice.result.now ≡ length left + 1 =
     ap length (c.as_slice.ensures.value ∙ c.push.ensures.items) ∙ length-append left (c.args.byte ∷ []) in
     let whole : length left + 1 ≡ wide =
-    omega (
-      arith,
-      ready.short,
-      c.if-len-wide.false,
-      c.len.ensures.value,
-      c.wide.ensures,
-      ap length c.push.ensures.items,
-      length-append left (c.args.byte ∷ []),
-    ) in
+    omega (arith, ready.short, c.if-len-from.false, c.len.ensures.value, c.from.ensures, c.count.ensures, ap length c.push.ensures.items, length-append left (c.args.byte ∷ [])) in
     let clocks : c.read_words.new.self.clocks ≡ 1 =
     ap (λ r. r.clocks) c.read_words.ensures
     ∙ (ap (λ k. length c.as_slice.result.now / (2 * lanes_count k)) ready.rows
@@ -114,12 +82,10 @@ returns-clause-ready g c =
       agrees = c.batch.ensures.agrees (framing_of link) ready.agrees;
       rows = c.batch.ensures.rows ∙ (ap (λ r. r.lanes) c.read_words.ensures ∙ ready.rows);
       short = omega (arith, none, some_lanes link.lanes);
-      fed = omega (arith, c.batch.ensures.fed, clocks, ready.fed);
-      few = few_clocks (c.args.self.now.clocks + 1) wide 0 (omega (
-        arith,
-        c.requires.few,
-        whole,
-        one_more c.args.self.now.clocks wide,
-      ));
+      fed = fed_on (clocks_fed c.args.self.now.reader.aligner) (clocks_fed c.batch.new.self.aligner) 1 wide
+          (length left) (length c.clear.new.self.items) c.args.self.now.fed 1
+          (c.batch.ensures.fed ∙ ap (λ k. clocks_fed c.args.self.now.reader.aligner + k) clocks) ready.fed
+          (omega (arith, whole, none));
+      few = c.requires.few;
       rests = rests;
     }) c.batch.ensures.rested

@@ -9,7 +9,7 @@ pub returns-in-Err-clause-went : goal.returns-in-Err-clause-went
 returns-in-Err-clause-went g c = λ taken p l st.
     let link = c.args.self.now.link in
     let f = framing_of link in
-    let n : ℕ = c.min.result * c.wide-wide.result in
+    let n : ℕ = c.min.result * (2 * c.from-wide.result) in
     let bytes : List ℕ = c.args.bytes.now in
     refused_map _ _ p l _ _ _ _ _ _ c.in-Err.end
     (λ bad q m h. front_all link (λ w. HasBadWord f w bad q m) taken bytes n h)
@@ -20,8 +20,7 @@ returns-in-Err-clause-went g c = λ taken p l st.
 pub returns-in-Ok-take_byte-clause-went : goal.returns-in-Ok-take_byte-clause-went
 returns-in-Ok-take_byte-clause-went g c = λ taken p l st.
     wrote_so _ _ p l _ _ (c.in-Ok-take_byte.ensures.went taken p l st)
-    (λ q m h. subst (λ xs. HasTaken c.take_byte.new.self (taken ++ xs) q m)
-    (first_byte c.args.bytes.now c.requires.some) h)
+    (λ q m h. subst (λ xs. HasTaken c.take_byte.new.self (taken ++ xs) q m) (first_byte c.args.bytes.now c.requires.some) h)
 
 pub returns-in-Err-take_byte-clause-went : goal.returns-in-Err-take_byte-clause-went
 returns-in-Err-take_byte-clause-went g c = λ taken p l st.

@@ -23,8 +23,7 @@ returns-in-Ok c = λ f words p l a h.
         tell = h.tell;
         frames = c.frames.ensures h.under h.tally h.holds;
         lines = c.lines.ensures h.under h.tally h.holds;
-        tail = by_framing (λ e l. IsTail e l h.sets c.tail.result) f c.args.self.now a
-            (c.tail.ensures h.sets h.parsed.core);
+        tail = by_framing (λ e l. IsTail e l h.sets c.tail.result) f c.args.self.now a (c.tail.ensures h.sets h.parsed.core);
       },
     )
 

@@ -1,5 +1,5 @@
 use Rattle.std.proofs.Common.{◌∙◌, sym, refl}
-use Rattle.dpx_sink.proofs.Writes.{nothing_wrote, wrote_so, wrote_on, went_on, cause_on}
+use Rattle.dpx_sink.proofs.Writes.{nothing_wrote, wrote_so, wrote_on, went_on}
 use Rattle.dpx_sink.proofs.reader.Reader.pump.Goals as goal
 
 pub loop-more-init : goal.loop-more-init
@@ -24,7 +24,7 @@ loop-more-preserved g c = record {
   fed = c.advance.ensures.fed ∙ c.loop-more.invariant.fed;
   rested = λ none. (c.in-Ok.ensures.last none).0;
   calm =
-      let calm = c.in-Ok.ensures.calm in
+      let calm = c.in-Ok.ensures.calm (λ same. cc) in
       record { pix = calm.pix ∙ c.loop-more.invariant.calm.pix; log = calm.log ∙ c.loop-more.invariant.calm.log };
 }
 
@@ -39,6 +39,3 @@ returns-in-Err-clause-agrees g c = λ f a. c.advance.ensures.agrees f (c.loop-mo
 pub returns-clause-went : goal.returns-clause-went
 returns-clause-went g c = λ f words p l a h.
     wrote_so _ _ p l _ _ (c.loop-more.invariant.wrote f words p l a h) (λ q m now. now.1 c.loop-more-test.false)
-
-pub returns-in-Err-clause-cause : goal.returns-in-Err-clause-cause
-returns-in-Err-clause-cause g c = cause_on c.in-Err.end _ _ _ c.loop-more.invariant.calm c.in-Err.ensures.cause

@@ -8,14 +8,12 @@ use Rattle.dpx_sink.proofs.reader.Reader.pump.Given as goal
 abbrev pub invariant-loop-more : goal.invariant-loop-more
 invariant-loop-more g l = record {
   wrote : (f : Framing) (words : List (List ℕ)) (p t : List ℕ) → Agrees f l.fn.self → HasRead f l.fn.self words p t
-      → Wrote (sinks (g.O.Sink.seen l.fn.pix) (g.O.Sink.seen l.fn.log))
-      (sinks (g.O.Sink.seen l.pix) (g.O.Sink.seen l.log)) p t
+      → Wrote (sinks (g.O.Sink.seen l.fn.pix) (g.O.Sink.seen l.fn.log)) (sinks (g.O.Sink.seen l.pix) (g.O.Sink.seen l.log)) p t
       (λ q m. HasRead f l.self words q m × (l.more ≡ false → HasReadWhole f l.self words q m));
   agrees : (f : Framing) → Agrees f l.fn.self → Agrees f l.self;
   fed : clocks_fed l.self.aligner ≡ clocks_fed l.fn.self.aligner;
   rested : l.more ≡ false → CanFeed l.self.aligner;
-  calm : Calm (sinks (g.O.Sink.seen l.fn.pix) (g.O.Sink.seen l.fn.log))
-      (sinks (g.O.Sink.seen l.pix) (g.O.Sink.seen l.log));
+  calm : Calm (sinks (g.O.Sink.seen l.fn.pix) (g.O.Sink.seen l.fn.log)) (sinks (g.O.Sink.seen l.pix) (g.O.Sink.seen l.log));
 }
 
 abbrev pub decreases-loop-more : goal.decreases-loop-more

@@ -1,7 +1,7 @@
 use Rattle.std.proofs.Common.{[], ◌∷◌, ◌++◌, subst}
 use Rattle.std.specs.Io.KnownBytes.{Appends}
 use Rattle.dpx_base.specs.Lanes.{lanes_count}
-use Rattle.dpx_sink.specs.Writes.{PixelsTook}
+use Rattle.dpx_base.specs.Transfer.{AppendsFront}
 use Rattle.dpx_sink.specs.Told.{after, records_of, text_of, tallied}
 use Rattle.dpx_sink.proofs.Events.{tell_on}
 use Rattle.dpx_sink.proofs.Fitting.{fits}
@@ -18,8 +18,7 @@ returns-in-Ok-hear-clause-went g c = λ f words p l a n.
       more_records = records_of (lanes_count f.lanes) n.under c.in-Ok.event;
       more_text = text_of c.in-Ok.event;
       pix_took = subst (λ k. Appends (g.O.Sink.seen c.args.pix.now).taken (g.O.Sink.seen c.hear.new.pix).taken
-          (records_of (lanes_count k) n.under c.in-Ok.event)) a.lines
-          (c.in-Ok-hear.ensures.records n.under n.tally n.holds);
+          (records_of (lanes_count k) n.under c.in-Ok.event)) a.lines (c.in-Ok-hear.ensures.records n.under n.tally n.holds);
       log_took = c.in-Ok-hear.ensures.text;
       so = record {
         sets = n.sets ++ c.args.set.now ∷ [];
@@ -40,8 +39,8 @@ returns-in-Err-hear-clause-went g c = λ f words p l a n.
     record {
       more_records = records_of (lanes_count f.lanes) n.under c.in-Ok.event;
       more_text = text_of c.in-Ok.event;
-      pix_took = subst (λ k. PixelsTook c.in-Err-hear.failed (g.O.Sink.seen c.args.pix.now).taken
-          (g.O.Sink.seen c.hear.new.pix).taken (records_of (lanes_count k) n.under c.in-Ok.event)) a.lines
+      pix_took = subst (λ k. AppendsFront (g.O.Sink.seen c.args.pix.now).taken (g.O.Sink.seen c.hear.new.pix).taken
+          (records_of (lanes_count k) n.under c.in-Ok.event)) a.lines
           (c.in-Err-hear.ensures.records_front n.under n.tally n.holds);
       log_took = c.in-Err-hear.ensures.text_front;
       so = record {
@@ -63,8 +62,7 @@ returns-in-Err-clause-went g c = λ f words p l a n. nothing_wrote _ p l _ (reco
   plain = n.given.plain;
   counted = counted_fed c.args.self.now.aligner words n.given.plain n.given.fed;
   first = n.given.first;
-  refuses = refuses_by f c.args.self.now n.sets c.args.set.now c.in-Err.bad a
-      (c.in-Err.ensures.refused n.sets n.parsed);
+  refuses = refuses_by f c.args.self.now n.sets c.args.set.now c.in-Err.bad a (c.in-Err.ensures.refused n.sets n.parsed);
   under = n.under;
   tally = n.tally;
   tell = n.tell;

@@ -1,4 +1,0 @@
-pub mod Answered
-pub mod Bounded
-pub mod Good
-pub mod LastStatus
