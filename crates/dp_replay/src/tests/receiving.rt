@@ -21,6 +21,9 @@ const EIGHT: &str = "misc0 21 depth 8";
 
 const ALL: &str = "received frames 2 lines 4 tail 0\n";
 
+/// Why a test ends that cuts a capture where it has no byte.
+const SHORT: &str = "the capture is too short";
+
 /// What the source gives a read, and which calls fail.
 #[derive(Clone, Copy)]
 pub(crate) struct Hearing<'a> {
@@ -115,7 +118,7 @@ fn report(alloc: Global, frames: usize, told: &str, last: &str) -> Result<String
 }
 
 /// The command on these bytes prints this behind so many lines of attributes, ends with this status, and gives so many
-/// whole lines of pixels.
+/// pixels: 16 for each whole line.
 type Wanted = (usize, &'static str, u8, u64);
 
 fn hears<R: Abort + Threads + Sync>(
@@ -128,7 +131,7 @@ fn hears<R: Abort + Threads + Sync>(
 ) -> Result<(), Fail>
     requires { 0 < hearing.step }
 {
-    let (frames, last, status, lines) = wanted;
+    let (frames, last, status, count) = wanted;
     let heard = hear(rt, alloc, command, capture, hearing)?;
     let printed = report(alloc, frames, EIGHT, last)?;
     assert_eq!(rt;
@@ -137,7 +140,7 @@ fn hears<R: Abort + Threads + Sync>(
     );
     assert_eq!(rt;
         heard.records.as_slice(),
-        records(alloc, 16 * lines)?.as_slice()
+        records(alloc, count)?.as_slice()
     );
     Ok(())
 }
@@ -152,7 +155,7 @@ fn what_was_sent_is_received(rt: HostRuntime) -> Result<(), Fail> {
             command,
             sent.as_slice(),
             CLEAR,
-            (2, ALL, 0, 4),
+            (2, ALL, 0, PIXELS),
         )?;
     }
     let bytes = Hearing { step: 1, ..CLEAR };
@@ -162,7 +165,7 @@ fn what_was_sent_is_received(rt: HostRuntime) -> Result<(), Fail> {
         "recv a b",
         sent.as_slice(),
         bytes,
-        (2, ALL, 0, 4),
+        (2, ALL, 0, PIXELS),
     )
 }
 
@@ -199,14 +202,14 @@ fn each_kind_of_capture_is_received(rt: HostRuntime) -> Result<(), Fail> {
 /// The capture from this byte behind the header on, or up to this byte; and what is received of it.
 const CUT_OFF: [(usize, usize, Wanted); 4] = [
     // the first header begins in the first clock that is left
-    (8 + 4 * 101, 2812, (2, ALL, 0, 4)),
+    (8 + 4 * 101, 2812, (2, ALL, 0, PIXELS)),
     // its group is cut on lane 0
     (8 + 4 * 102, 2812, (0, "no lock in 599 clocks\n", 6, 0)),
-    (8, 1288, (1, "received frames 0 lines 1 tail 6\n", 0, 1)),
+    (8, 1288, (1, "received frames 0 lines 1 tail 6\n", 0, 16)),
     (
         8,
         1290,
-        (1, "capture truncated at clock 320 with 2 bytes\n", 6, 1),
+        (1, "capture truncated at clock 320 with 2 bytes\n", 6, 16),
     ),
 ];
 
@@ -214,8 +217,8 @@ const CUT_OFF: [(usize, usize, Wanted); 4] = [
 fn a_part_of_a_capture_is_received_as_far_as_it_goes(rt: HostRuntime) -> Result<(), Fail> {
     let sent = capture(&rt, rt.alloc(), TWO_LANES, 8)?;
     for (from, to, wanted) in CUT_OFF {
-        let mut part = sent[..8].to_vec(rt.alloc())?;
-        part.extend_from_slice(&sent[from..to])?;
+        let mut part = sent.get(..8).ok_or(SHORT)?.to_vec(rt.alloc())?;
+        part.extend_from_slice(sent.get(from..to).ok_or(SHORT)?)?;
         hears(&rt, rt.alloc(), "recv a b", part.as_slice(), CLEAR, wanted)?;
     }
     Ok(())
@@ -236,7 +239,8 @@ fn a_capture_cut_near_its_start_says_where(rt: HostRuntime) -> Result<(), Fail> 
                 count % 4
             )?
         };
-        let heard = hear(&rt, rt.alloc(), "recv a b", &sent[..count], CLEAR)?;
+        let part = sent.get(..count).ok_or(SHORT)?;
+        let heard = hear(&rt, rt.alloc(), "recv a b", part, CLEAR)?;
         assert_eq!(rt;
             (heard.printed.as_str(), heard.status),
             (report.as_str(), 6)
@@ -277,8 +281,11 @@ fn damage_is_named_at_its_place(rt: HostRuntime) -> Result<(), Fail> {
     let mut sent = capture(&rt, rt.alloc(), TWO_LANES, 8)?;
     // lane 1 in clock 200
     let place = 8 + 4 * 200 + 2;
-    sent[place] = 0;
-    sent[place + 1] = 0;
+    for byte in [place, place + 1] {
+        if let Some(old) = sent.get_mut(byte) {
+            *old = 0;
+        }
+    }
     let wanted = (1, "not a word at clock 200 lane 1: 000\n", 6, 0);
     hears(&rt, rt.alloc(), "recv a b", sent.as_slice(), CLEAR, wanted)
 }
