@@ -138,10 +138,7 @@ fn hears<R: Abort + Threads + Sync>(
         (heard.printed.as_str(), heard.status),
         (printed.as_str(), status)
     );
-    assert_eq!(rt;
-        heard.records.as_slice(),
-        records(alloc, count)?.as_slice()
-    );
+    assert_eq!(rt; heard.records.as_slice(), records(alloc, count)?.as_slice());
     Ok(())
 }
 
