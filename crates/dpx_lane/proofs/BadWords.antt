@@ -24,11 +24,11 @@ use Rattle.dpx_code.proofs.Readings.{reads_refusal, reads_not_a_word, reads_wron
 use Rattle.dpx_code.proofs.Small.{coded_small}
 use Rattle.dpx_code.proofs.Tracking.{tracked}
 use Rattle.dpx_lane.specs.Reading.{as_word_bad, read_word, IsReason, IsFault}
-use Rattle.dpx_lane.specs.Receiving.{HasRead, FaultBehind, Ends, IsReading}
+use Rattle.dpx_lane.specs.Receiving.{HasDecoded, FaultBehind, Ends, IsReading}
 use Rattle.dpx_lane.specs.declared.lane_fault.LaneFault.{LaneFault}
 use Rattle.dpx_lane.specs.declared.lane_fault.WordBad.{WordBad}
 use Rattle.dpx_lane.specs.declared.lane_fault.WordBad.TheVariants.{Value, Code}
-use Rattle.dpx_lane.specs.declared.lane_rx.LaneRx.{LaneRx}
+use Rattle.dpx_lane.specs.declared.decoder.Decoder.{Decoder}
 
 -- no word of those that were read is bad, whatever follows
 good_word : (rd : Rd) (good rest : List ℕ) (t : ℕ) → Tracks rd good → t < length good → BadAt (good ++ rest) t → ⊥
@@ -141,10 +141,10 @@ fault_by rd good rest (Some fault) h e = (
   reason_there fault good rest e,
 )
 
-pub fault_is : (lane : LaneRx) (words left : List ℕ) → HasRead lane words left → IsFault words lane.fault
-fault_is lane words left h =
-    subst (λ (x : List ℕ). IsFault x lane.fault) (sym h.words_are)
-    (fault_by lane.rd h.good h.rest lane.fault h.tracks h.end)
+pub fault_is : (decoder : Decoder) (words left : List ℕ) → HasDecoded decoder words left → IsFault words decoder.fault
+fault_is decoder words left h =
+    subst (λ (x : List ℕ). IsFault x decoder.fault) (sym h.words_are)
+    (fault_by decoder.rd h.good h.rest decoder.fault h.tracks h.end)
 
 -- what the words say that were read
 pub symbols_read : (rd : Rd) (good : List ℕ) (plain : List Sym) → Tracks rd good
@@ -164,16 +164,16 @@ whole_if : (fault : Option LaneFault) (good rest : List ℕ) → Ends fault good
 whole_if None good rest e is = e
 whole_if (Some fault) good rest e is = cc
 
-pub is_reading : (lane : LaneRx) (words left : List ℕ) → HasRead lane words left → IsReading words left lane.fault
-is_reading lane words left h = record {
+pub is_reading : (decoder : Decoder) (words left : List ℕ) → HasDecoded decoder words left → IsReading words left decoder.fault
+is_reading decoder words left h = record {
   good = h.good;
   rest = h.rest;
   plain = h.plain;
   words_are = h.words_are;
   left_is = h.left_is;
   back = h.back;
-  symbols = symbols_read lane.rd h.good h.plain h.tracks h.key;
-  is_fault = fault_is lane words left h;
-  whole = whole_if lane.fault h.good h.rest h.end;
-  cut = cut_at lane.fault h.good h.rest h.end;
+  symbols = symbols_read decoder.rd h.good h.plain h.tracks h.key;
+  is_fault = fault_is decoder words left h;
+  whole = whole_if decoder.fault h.good h.rest h.end;
+  cut = cut_at decoder.fault h.good h.rest h.end;
 }

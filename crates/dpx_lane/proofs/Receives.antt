@@ -14,12 +14,12 @@ use Rattle.dpx_code.specs.declared.disparity.Rd.{Rd}
 use Rattle.dpx_code.proofs.Tracking.{tracked}
 use Rattle.dpx_lane.specs.Codes.{code_of, symbol_of}
 use Rattle.dpx_lane.specs.Reading.{as_word_bad, read_word}
-use Rattle.dpx_lane.specs.Receiving.{HasRead, Ends}
+use Rattle.dpx_lane.specs.Receiving.{HasDecoded, Ends}
 use Rattle.dpx_lane.specs.Scrambling.{HasTaken}
 use Rattle.dpx_lane.specs.declared.lane_fault.LaneFault.{LaneFault}
 use Rattle.dpx_lane.specs.declared.lane_fault.WordBad.{WordBad}
 use Rattle.dpx_lane.specs.declared.lane_fault.WordBad.TheVariants.{Value}
-use Rattle.dpx_lane.specs.declared.lane_rx.LaneRx.{LaneRx}
+use Rattle.dpx_lane.specs.declared.decoder.Decoder.{Decoder}
 use Rattle.dpx_lane.proofs.Keyeds.{keyed_more}
 
 as_ok : (x : Result (Sym × Rd) CodeBad) (read : Sym × Rd) → as_word_bad x ≡ Ok read → x ≡ Ok read
@@ -44,12 +44,12 @@ Tracked good word result =
     (λ bad. Stuck (good ++ word ∷ []))
 
 -- One good word more: its symbol with the key taken off stands in its place as a code.
-pub good_more : (old new : LaneRx) (word out : ℕ) (symbol plain : Sym) (words left : List ℕ)
+pub good_more : (old new : Decoder) (word out : ℕ) (symbol plain : Sym) (words left : List ℕ)
     → old.fault ≡ None → new.fault ≡ old.fault → read_word word old.rd ≡ Ok (symbol, new.rd)
     → ((taken : List Sym) → HasTaken old.scrambler taken → HasTaken new.scrambler (taken ++ symbol ∷ []))
     → ((taken : List Sym) → HasTaken old.scrambler taken → plain ≡ scrambled (since_reset taken) symbol)
     → out ≡ code_of plain → symbol_of out ≡ plain → new.clock ≡ old.clock + 1
-    → HasRead old words left → HasRead new (words ++ word ∷ []) (left ++ out ∷ [])
+    → HasDecoded old words left → HasDecoded new (words ++ word ∷ []) (left ++ out ∷ [])
 good_more old new word out symbol plain words left none same read takes key code back clock h =
     let good = h.good in
     let symbols = map candidate_of good in

@@ -9,6 +9,7 @@ use Rattle.dpx_code.specs.declared.disparity.Rd.{Rd}
 use Rattle.dpx_lane.specs.Codes.{code_of, symbol_of}
 use Rattle.dpx_lane.specs.Reading.{read_word, IsFault}
 use Rattle.dpx_lane.specs.Scrambling.{HasTaken}
+use Rattle.dpx_lane.specs.declared.decoder.Decoder.{Decoder}
 use Rattle.dpx_lane.specs.declared.lane_fault.LaneFault.{LaneFault}
 use Rattle.dpx_lane.specs.declared.lane_rx.LaneRx.{LaneRx}
 
@@ -26,9 +27,9 @@ abbrev pub Ends : Option LaneFault → (good rest : List ℕ) → Type 0
 Ends None good rest = rest ≡ []
 Ends (Some fault) good rest = FaultBehind fault good rest
 
--- The lane took these words since it was made, and left these entries in their places: the codes of the good words'
+-- The decoder took these words since it was made, and left these entries in their places: the codes of the good words'
 -- symbols, and the words from the first bad one on.
-pub record HasRead (lane : LaneRx) (words left : List ℕ) : Type 0 where
+pub record HasDecoded (decoder : Decoder) (words left : List ℕ) : Type 0 where
   pub good : List ℕ
   pub rest : List ℕ
   pub plain : List Sym
@@ -36,14 +37,18 @@ pub record HasRead (lane : LaneRx) (words left : List ℕ) : Type 0 where
   pub left_is : left ≡ map code_of plain ++ rest
   pub key : Keyed (map candidate_of good) plain
   pub back : map symbol_of (map code_of plain) ≡ plain
-  pub tracks : Tracks lane.rd good
-  pub taken : HasTaken lane.scrambler (map candidate_of good)
-  pub clock : lane.clock ≡ length good
-  pub end : Ends lane.fault good rest
+  pub tracks : Tracks decoder.rd good
+  pub taken : HasTaken decoder.scrambler (map candidate_of good)
+  pub clock : decoder.clock ≡ length good
+  pub end : Ends decoder.fault good rest
+
+-- the lane took these words since it was made, and left these entries in their places
+abbrev pub HasRead : LaneRx → (words left : List ℕ) → Type 0
+HasRead lane words left = HasDecoded lane.decoder words left
 
 -- the clocks before the first bad word, as far as words were taken
 abbrev pub good_clocks : LaneRx → ℕ
-good_clocks lane = lane.clock
+good_clocks lane = lane.decoder.clock
 
 -- a row with which a lane's clocks stay in their range
 abbrev pub TakesRow : LaneRx → List ℕ → Type 0

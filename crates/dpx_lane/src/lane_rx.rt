@@ -1,19 +1,14 @@
-ghost use Rattle.std.specs.Prelude.{◌≡◌, ◌<◌, ◌≤◌, ◌+◌, ◌^◌, ℕ, List, [], ◌∷◌, ◌++◌, length, Ok, None};
-ghost use Rattle.dpx_lane.specs.Reading.{read_word, IsFault};
+ghost use Rattle.std.specs.Prelude.{◌≡◌, ℕ, List, []};
+ghost use Rattle.dpx_lane.specs.Reading.{IsFault};
 
-use crate::lane_fault::read_word;
-use crate::symbol_table::{REFUSED, SymbolTable, rd_numbered};
-use crate::{LaneFault, LaneWork, Scrambler, code_of, symbol_of};
-use dpx_base::Sym;
-use dpx_code::Rd;
+use crate::decoder::Decoder;
+use crate::symbol_table::SymbolTable;
+use crate::{LaneFault, LaneWork};
 
 /// A lane's state on the way in: it decodes and takes the key off, up to the first bad word.
 #[derive(Drop)]
 pub struct LaneRx {
-    rd: Rd,
-    scrambler: Scrambler,
-    clock: u64,
-    fault: Option<LaneFault>,
+    decoder: Decoder,
     table: SymbolTable,
 }
 
@@ -26,10 +21,7 @@ impl LaneRx {
         ensures clocks { good_clocks result ≡ 0 }
     {
         LaneRx {
-            rd: Rd::Unknown,
-            scrambler: Scrambler::new(),
-            clock: 0,
-            fault: None,
+            decoder: Decoder::new(),
             table: SymbolTable::new(),
         }
     }
@@ -39,48 +31,7 @@ impl LaneRx {
         ensures first { (words left : List ℕ) → HasRead self.now words left → IsFault words result }
         ensures reading { (words left : List ℕ) → HasRead self.now words left → IsReading words left result }
     {
-        self.fault
-    }
-
-    /// A good word.
-    fn go_on(&mut self, word: u16, sym: Sym, rd: Rd) -> u16
-        requires clock { self.old.clock < 2 ^ 62 }
-        requires fault { self.old.fault ≡ None }
-        requires read { read_word word self.old.rd ≡ Ok (sym, rd) }
-        ensures state { (words left : List ℕ) → HasRead self.old words left
-            → HasRead self.new (words ++ word ∷ []) (left ++ result ∷ []) }
-        ensures clock { self.new.clock ≡ self.old.clock + 1 }
-    {
-        self.rd = rd;
-        self.clock += 1;
-        code_of(self.scrambler.next(sym))
-    }
-
-    fn step(&mut self, word: u16) -> u16
-        requires { self.old.clock < 2 ^ 62 }
-        ensures state { (words left : List ℕ) → HasRead self.old words left
-            → HasRead self.new (words ++ word ∷ []) (left ++ result ∷ []) }
-        ensures clock { self.new.clock ≤ self.old.clock + 1 }
-    {
-        if self.fault.is_some() {
-            return word;
-        }
-        if word < 1024 {
-            let entry = self.table.entry(word, self.rd);
-            if entry < REFUSED {
-                return self.go_on(word, symbol_of(entry % 512), rd_numbered(entry / 512));
-            }
-        }
-        match read_word(word, self.rd) {
-            Ok((sym, rd)) => self.go_on(word, sym, rd),
-            Err(why) => {
-                self.fault = Some(LaneFault {
-                    clock: self.clock,
-                    why,
-                });
-                word
-            }
-        }
+        self.decoder.fault()
     }
 }
 
@@ -92,8 +43,6 @@ impl LaneWork for LaneRx {
     ghost does = { ReadsRow };
 
     fn run(&mut self, row: &mut [u16]) {
-        for word in row.iter_mut() {
-            *word = self.step(*word);
-        }
+        self.decoder.read_row(&self.table, row);
     }
 }

@@ -3,7 +3,7 @@
 //! * `codes`: the code of a symbol in a row
 //! * `scrambler`: the key
 //! * `word_table`, `coder`, `delay`, `lane_tx`: a lane on the way out
-//! * `symbol_table`, `lane_fault`, `lane_rx`: a lane on the way in
+//! * `symbol_table`, `lane_fault`, `decoder`, `lane_rx`: a lane on the way in
 //! * `laws`: what lanes that stand for whole lists say of them
 //! * `lane_work`: what a lane's state does to a row
 //! * `words`, `lane_rows`: the rows of the lanes, and their bytes
@@ -12,6 +12,7 @@
 
 mod coder;
 mod codes;
+mod decoder;
 mod delay;
 mod lane_fault;
 mod lane_rows;

@@ -1,6 +1,6 @@
 use Rattle.std.proofs.Common.{refl}
 use Rattle.dpx_lane.proofs.Receives.{good_more}
-use Rattle.dpx_lane.proofs.lane_rx.LaneRx.go_on.Goals as goal
+use Rattle.dpx_lane.proofs.decoder.Decoder.go_on.Goals as goal
 
 pub returns-clause-state : goal.returns-clause-state
 returns-clause-state c words left h =

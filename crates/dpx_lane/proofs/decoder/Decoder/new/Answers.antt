@@ -1,7 +1,7 @@
 use Rattle.std.proofs.Common.{refl, []}
 use Rattle.dpx_code.specs.Track.{ends}
 use Rattle.dpx_lane.proofs.Keyeds.{keyed_none}
-use Rattle.dpx_lane.proofs.lane_rx.LaneRx.new.Goals as goal
+use Rattle.dpx_lane.proofs.decoder.Decoder.new.Goals as goal
 
 pub returns-clause-nothing : goal.returns-clause-nothing
 unfolding ends
