@@ -12,6 +12,7 @@ use std::test::Fail;
 use std::thread::Threads;
 
 mod by_table;
+mod displays;
 mod faults;
 mod histories;
 mod receive_faults;

@@ -1,4 +1,5 @@
 pub mod Captures
+pub mod Edids
 pub mod Jobs
 pub mod LineSteps
 pub mod Modelled
@@ -9,6 +10,8 @@ pub mod Reportings
 pub mod Runs
 pub mod SendingCommands
 pub mod Sends
+pub mod SilentModel
+pub mod SlotSteps
 pub mod Trainings
 pub mod Transfers
 pub mod Watches

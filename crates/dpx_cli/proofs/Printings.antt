@@ -107,6 +107,8 @@ module _ (out : Step SinkSeen) (said : List ℕ) (status : ℕ) where
   ended_at_8 (Err (stop.Job why)) p e = inr (stopped_at_8 (stop.Job why) (λ c. cc) p e)
   ended_at_8 (Err (stop.Untrained end)) p e = inr (stopped_at_8 (stop.Untrained end) (λ c. cc) p e)
   ended_at_8 (Err (stop.Unfit why)) p e = inr (stopped_at_8 (stop.Unfit why) (λ c. cc) p e)
+  ended_at_8 (Err (stop.Unfetched end)) p e = inr (stopped_at_8 (stop.Unfetched end) (λ c. cc) p e)
+  ended_at_8 (Err (stop.BadEdid why requests)) p e = inr (stopped_at_8 (stop.BadEdid why requests) (λ c. cc) p e)
   ended_at_8 (Err (stop.BadPixel number value)) p e = inr (stopped_at_8 (stop.BadPixel number value) (λ c. cc) p e)
   ended_at_8 (Err (stop.PixelsEnded number)) p e = inr (stopped_at_8 (stop.PixelsEnded number) (λ c. cc) p e)
   ended_at_8 (Err (stop.Capture why)) p e = inr (stopped_at_8 (stop.Capture why) (λ c. cc) p e)

@@ -1,5 +1,5 @@
 -- A command that prints one report, from its steps to its contract.
-use Rattle.std.proofs.Common.{◌≡◌, ◌⊎◌, ℕ, List, [], ◌++◌, refl, sym, ap, ◌∙◌, subst, arith, inl, inr, Result, Ok, Err}
+use Rattle.std.proofs.Common.{◌≡◌, ◌⊎◌, ℕ, List, [], ◌++◌, refl, sym, ap, subst, arith, inl, inr, Result, Ok, Err}
 use Rattle.std.proofs.Common.{Option, Some, None}
 use Rattle.std.specs.Prelude.{⊤, ◌≢◌, IfSome, IsSomeAnd, IsOk, IsErr}
 use Rattle.dpx_base.specs.Faults.{Rose}
@@ -10,15 +10,14 @@ use Rattle.dpx_files.specs.declared.refusal.JobBad.{JobBad}
 use Rattle.dpx_files.specs.Job.{reading}
 use Rattle.dpx_cli.specs.declared.stop.JobRefusal.{JobRefusal}
 use Rattle.dpx_cli.specs.declared.stop.Stop.{Stop}
-use Rattle.dpx_cli.specs.declared.stop.Stop.TheVariants as stop
 use Rattle.dpx_cli.specs.declared.stop.Stop.TheVariants.{Job, ReadFault, OutFault, NoMemory}
-use Rattle.dpx_cli.specs.Jobs.{JobRefused, ReadsAsJob, ReadsAsNone, SaysJobRefused}
+use Rattle.dpx_cli.specs.Jobs.{JobRefused, ReadsAsJob, ReadsAsNone}
 use Rattle.dpx_cli.specs.Printing.{BreaksReport, CommandPrints, IsReport, StopsAtOnce, StopsBehind}
-use Rattle.dpx_cli.specs.Reporting.{ReportCauses, ReportStops, ReportDoes, SaysDone}
+use Rattle.dpx_cli.specs.Reporting.{ReportCauses, ReportStops, ReportDoes}
 use Rattle.dpx_cli.specs.Status.{IsClean}
-use Rattle.dpx_cli.specs.Step.{Step, ◌⇒◌}
+use Rattle.dpx_cli.specs.Step.{Step}
 use Rattle.dpx_cli.specs.Stop.{bad_of, job_line, memory_line, read_fault_line, stop_lines, stop_status}
-use Rattle.dpx_cli.specs.Transfer.{Prints, PrintsFront}
+use Rattle.dpx_cli.specs.Transfer.{Prints}
 
 -- What has to hold of the reports: there is one only where the job had a reading and was done, and its status is none of
 -- the others.
@@ -28,6 +27,13 @@ pub record AreReports (need : Need) (src : Step SourceSeen) (Done : Type 0) (Rep
     pub clean : (status : ℕ) (text : List ℕ) → Reports status text → IsClean status × (status ≢ 3)
     pub calm : (status : ℕ) (text : List ℕ) → Reports status text → src.now.faults ≡ src.before.faults
     pub reads : (status : ℕ) (text : List ℕ) → Reports status text → IsSomeAnd src.before.left (ReadsAsNone need) → ⊥
+
+-- a job that was read is not one that has no reading
+pub not_none : (need : Need) (left : Option (List ℕ)) (asked : AskedJob)
+    → IfSome left (λ bytes. reading need bytes ≡ Ok asked) → IsSomeAnd left (ReadsAsNone need) → ⊥
+not_none need None asked reads none = none
+not_none need (Some bytes) asked reads none =
+    let clash = subst (λ (read : Result AskedJob JobBad). IsErr read) reads none in absurd cc
 
 not_both : (need : Need) (left : Option (List ℕ)) (why : JobBad)
     → IfSome left (λ bytes. reading need bytes ≡ Err why) → IsSomeAnd left (ReadsAsJob need) → ⊥

@@ -59,7 +59,7 @@ module _ (src : Step SourceSeen) (port : Step (PortState SinkPlan)) (PortKept : 
 
   job_trained : {shape : Shape} {link : Link} {said : List ℕ} (a : RunAsks src port shape link said)
       → JobTrained need.Run src port a.end
-  job_trained a = record { asked = a.asked; has = a.has; plan = a.plan; asks = a.loads; trained = a.trained }
+  job_trained a = record { asked = a.asked; has = a.has; plan = a.plan; asks = a.loads; top = a.top; trains = a.trains; trained = a.trained }
 
   training_ends : {shape : Shape} {link : Link} {said : List ℕ} → RunAsks src port shape link said
       → TrainingEnds need.Run src port
@@ -67,11 +67,11 @@ module _ (src : Step SourceSeen) (port : Step (PortState SinkPlan)) (PortKept : 
 
   -- the steps: the job was read, and then its link trained, or not; where it was, the shape was sent
   module _ (asked : AskedJob) (has : HasJob need.Run src asked) (plan : SinkPlan) (loads : plan_asked asked ≡ Some plan)
-      (out middle : SinkSeen) where
-    pub training_stopped : (stop : Stop) → Kept → TrainStep (link_asked asked) plan port (out ⇒ middle) (Err stop)
+      (top : Link) (trains : link_asked asked ≡ Some top) (out middle : SinkSeen) where
+    pub training_stopped : (stop : Stop) → Kept → TrainStep top plan port (out ⇒ middle) (Err stop)
         → StepsDo (RunCauses src port PortKept pipe pix Kept) (out ⇒ middle) (Err stop)
     training_stopped stop kept s =
-        let t = stops_training need.Run src port PortKept asked has plan loads out middle stop s in
+        let t = stops_training need.Run src port PortKept asked has plan loads top trains out middle stop s in
         record { said = t.said; caused = inl (t.caused, kept); printed = t.printed }
 
     -- what was printed behind the report of the training
@@ -86,7 +86,7 @@ module _ (src : Step SourceSeen) (port : Step (PortState SinkPlan)) (PortKept : 
     caused (Err stop) said c = inr c
 
     pub shape_sent : (link : Link) (shape : Shape) (now : SinkSeen) (done : Result ⊤ Stop)
-        → shape_asked asked ≡ Some shape → TrainStep (link_asked asked) plan port (out ⇒ middle) (Ok link)
+        → shape_asked asked ≡ Some shape → TrainStep top plan port (out ⇒ middle) (Ok link)
         → StepsDo (ShapeSent shape link pipe pix Kept) (middle ⇒ now) done
         → StepsDo (RunCauses src port PortKept pipe pix Kept) (out ⇒ now) done
     shape_sent link shape now done asks t s =
@@ -97,6 +97,8 @@ module _ (src : Step SourceSeen) (port : Step (PortState SinkPlan)) (PortKept : 
           asks = asks;
           plan = plan;
           loads = loads;
+          top = top;
+          trains = trains;
           end = t.end;
           trained = t.trained;
           over = t.ends.0;
@@ -126,7 +128,15 @@ module _ (src : Step SourceSeen) (port : Step (PortState SinkPlan)) (PortKept : 
       let sent : StatusOfTrained pipe.before.pixels (shape_asked a.asked) (trained_link a.end) status =
       rw (a.asks, a.over) is in
       let both : TrainedAndSent port pipe.before.pixels a.asked status =
-      record { plan = a.plan; loads = a.loads; end = a.end; trained = a.trained; decided = sent } in
+      record {
+        plan = a.plan;
+        loads = a.loads;
+        top = a.top;
+        trains = a.trains;
+        end = a.end;
+        trained = a.trained;
+        decided = sent;
+      } in
       read_as need.Run (λ read. StatusOfRun port pipe.before.pixels read status) src.before.left (Ok a.asked)
       a.has.reads both
 
@@ -136,7 +146,15 @@ module _ (src : Step SourceSeen) (port : Step (PortState SinkPlan)) (PortKept : 
   untrained_decides end status t none is =
       let decided : StatusOfTrained pipe.before.pixels (shape_asked t.asked) (trained_link end) status = rw none is in
       let both : TrainedAndSent port pipe.before.pixels t.asked status =
-      record { plan = t.plan; loads = t.asks; end = end; trained = t.trained; decided = decided } in
+      record {
+        plan = t.plan;
+        loads = t.asks;
+        top = t.top;
+        trains = t.trains;
+        end = end;
+        trained = t.trained;
+        decided = decided;
+      } in
       read_as need.Run (λ read. StatusOfRun port pipe.before.pixels read status) src.before.left (Ok t.asked)
       t.has.reads both
 
@@ -204,6 +222,8 @@ module _ (src : Step SourceSeen) (port : Step (PortState SinkPlan)) (PortKept : 
       kept,
     )
     untrained_at (Err (stop.Untrained end)) said (inr c) e printed = absurd c.sent.sent
+    untrained_at (Err (stop.Unfetched end)) said (inl (s, kept)) e printed = absurd s
+    untrained_at (Err (stop.Unfetched end)) said (inr c) e printed = absurd c.sent.sent
     untrained_at _ said c e printed = absurd cc
 
     -- the report of the training stands first

@@ -2,6 +2,7 @@
 use Rattle.std.proofs.Common.{◌≡◌, ◌⊎◌, ℕ, List, [], refl, sym, ap, subst, inl, inr}
 use Rattle.std.proofs.Common.{Result, Ok, Err, Option, Some, None}
 use Rattle.std.specs.Prelude.{⊤, IfSome}
+use Rattle.dpx_base.specs.declared.link.Link.{Link}
 use Rattle.dpx_base.specs.Pipe.{PipeState}
 use Rattle.dpx_base.specs.Seen.{SourceSeen, SinkSeen}
 use Rattle.dpx_files.specs.declared.job.Job.{Job as AskedJob}
@@ -49,21 +50,21 @@ module _ (src : Step SourceSeen) (pipe : Step PipeState) (pix : Step SinkSeen) (
 
   -- the job was read, and its shape sent
   module _ (asked : AskedJob) (has : HasJob need.Send src asked) (shape : Shape)
-      (asks : shape_asked asked ≡ Some shape) where
+      (asks : shape_asked asked ≡ Some shape) (link : Link) (over : link_asked asked ≡ Some link) where
     causes : (done : Result ⊤ Stop) (said : List ℕ) → AskedSent (SendAsks src) pipe pix Kept done said
         → SendCauses src pipe pix Kept done said
     causes (Ok done) said c = c
     causes (Err stop) said c = inr c
 
     pub steps_of_shape : (out : Step SinkSeen) (done : Result ⊤ Stop)
-        → StepsDo (ShapeSent shape (link_asked asked) pipe pix Kept) out done
+        → StepsDo (ShapeSent shape link pipe pix Kept) out done
         → StepsDo (SendCauses src pipe pix Kept) out done
     steps_of_shape out done s =
-        let asks_so : SendAsks src shape (link_asked asked) [] =
-        record { asked = asked; has = has; asks = asks; over = refl; nothing = refl } in
+        let asks_so : SendAsks src shape link [] =
+        record { asked = asked; has = has; asks = asks; over = over; nothing = refl } in
         let sent : AskedSent (SendAsks src) pipe pix Kept done s.said = record {
           shape = shape;
-          link = link_asked asked;
+          link = link;
           before = [];
           asked = asks_so;
           behind = s.said;
@@ -79,7 +80,7 @@ module _ (src : Step SourceSeen) (pipe : Step PipeState) (pix : Step SinkSeen) (
       → IfSome src.before.left (λ bytes. StatusOfSend pipe.before.pixels (reading need.Send bytes) status)
   asked_decides status c is =
       read_as need.Send (λ read. StatusOfSend pipe.before.pixels read status) src.before.left (Ok c.asked.asked)
-      c.asked.has.reads (rw (c.asked.asks, ← c.asked.over) is)
+      c.asked.has.reads (rw (c.asked.asks, c.asked.over) is)
 
   decided_at : (done : Result ⊤ Stop) (said : List ℕ) (status : ℕ) → SendCauses src pipe pix Kept done said
       → status ≡ end_status done → IsClean status

@@ -40,12 +40,14 @@ pub is_some : (end : TrainEnd) (link : Link) → trained_link end ≡ Some link 
 is_some end link e = subst (λ (trained : Option Link). IsSome trained) (sym e) refl
 
 module _ (need : Need) (src : Step SourceSeen) (port : Step (PortState SinkPlan)) (PortKept : Type 0) (asked : AskedJob)
-    (has : HasJob need src asked) (plan : SinkPlan) (asks : plan_asked asked ≡ Some plan) (out out_now : SinkSeen) where
-  abbrev job_trained : {end : TrainEnd} → TrainedWith (link_asked asked) plan port end → JobTrained need src port end
-  job_trained t = record { asked = asked; has = has; plan = plan; asks = asks; trained = t }
+    (has : HasJob need src asked) (plan : SinkPlan) (asks : plan_asked asked ≡ Some plan) (top : Link)
+    (trains : link_asked asked ≡ Some top) (out out_now : SinkSeen) where
+  abbrev job_trained : {end : TrainEnd} → TrainedWith top plan port end → JobTrained need src port end
+  job_trained t =
+      record { asked = asked; has = has; plan = plan; asks = asks; top = top; trains = trains; trained = t }
 
   -- the job was read, and the step of training stopped the command
-  pub stops_training : (stop : Stop) → TrainStep (link_asked asked) plan port (out ⇒ out_now) (Err stop)
+  pub stops_training : (stop : Stop) → TrainStep top plan port (out ⇒ out_now) (Err stop)
       → TrainingStopped need src port PortKept (out ⇒ out_now) stop
   stops_training (Untrained why) s = record {
     said = [];
@@ -69,28 +71,29 @@ module _ (need : Need) (src : Step SourceSeen) (port : Step (PortState SinkPlan)
   stops_training _ s = absurd s.ends
 
   -- the job was read, and its link was trained
-  pub reports_trained : (link : Link) (s : TrainStep (link_asked asked) plan port (out ⇒ out_now) (Ok link))
+  pub reports_trained : (link : Link) (s : TrainStep top plan port (out ⇒ out_now) (Ok link))
       → ReportsTrained need src port (train_report s.end)
   reports_trained link s =
       record { end = s.end; trained = job_trained s.trained; link = is_some s.end link s.ends.0; said = refl }
 
 -- the same of the command
 module _ (src : Step SourceSeen) (port : Step (PortState SinkPlan)) (PortKept : Type 0) (out out_now : SinkSeen)
-    (asked : AskedJob) (has : HasJob need.Train src asked) (plan : SinkPlan) (asks : plan_asked asked ≡ Some plan) where
+    (asked : AskedJob) (has : HasJob need.Train src asked) (plan : SinkPlan) (asks : plan_asked asked ≡ Some plan)
+    (top : Link) (trains : link_asked asked ≡ Some top) where
   pub training_done : (link : Link)
-      → TrainStep (link_asked asked) plan port (out ⇒ out_now) (Ok link)
+      → TrainStep top plan port (out ⇒ out_now) (Ok link)
       → StepsDo (TrainCauses src port PortKept) (out ⇒ out_now) (Ok tt)
   training_done link s = record {
     said = train_report s.end;
-    caused = reports_trained need.Train src port PortKept asked has plan asks out out_now link s;
+    caused = reports_trained need.Train src port PortKept asked has plan asks top trains out out_now link s;
     printed = s.ends.1;
   }
 
   pub training_stopped : (stop : Stop)
-      → TrainStep (link_asked asked) plan port (out ⇒ out_now) (Err stop)
+      → TrainStep top plan port (out ⇒ out_now) (Err stop)
       → StepsDo (TrainCauses src port PortKept) (out ⇒ out_now) (Err stop)
   training_stopped stop s =
-      let t = stops_training need.Train src port PortKept asked has plan asks out out_now stop s in
+      let t = stops_training need.Train src port PortKept asked has plan asks top trains out out_now stop s in
       record { said = t.said; caused = t.caused; printed = t.printed }
 
 -- a job is not one that has no reading

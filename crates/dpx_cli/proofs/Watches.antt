@@ -1,8 +1,8 @@
 -- Events that were taken one behind the other, and the command `watch` from its steps to its contract.
-use Rattle.std.proofs.Common.{◌≡◌, ◌⊎◌, ℕ, suc, ◌+◌, ◌*◌, ◌≤◌, List, [], ◌∷◌, ◌++◌, length, map, refl, sym, ap, ◌∙◌, subst}
-use Rattle.std.proofs.Common.{arith, append_assoc, inl, inr, Option, Some, None, Result, Ok, Err}
+use Rattle.std.proofs.Common.{◌≡◌, ℕ, suc, ◌+◌, List, [], ◌∷◌, ◌++◌, length, refl, sym, ap, ◌∙◌, subst}
+use Rattle.std.proofs.Common.{arith, append_assoc, inr, Some, Result, Ok, Err}
 use Rattle.std.proofs.lemmas.List.{append-nil, length-map, map-append}
-use Rattle.std.specs.Prelude.{⊤, IfSome, IsErr, IsSomeAnd, OnOk}
+use Rattle.std.specs.Prelude.{⊤, OnOk}
 use Rattle.dpx_base.specs.declared.link.Link.{Link}
 use Rattle.dpx_base.specs.declared.port_event.PortEvent.{PortEvent}
 use Rattle.dpx_base.specs.Port.{PortState, Added, asks}
@@ -11,8 +11,7 @@ use Rattle.dpx_base.specs.Seen.{SourceSeen, SinkSeen}
 use Rattle.dpx_dpcd.specs.declared.plan.SinkPlan.{SinkPlan}
 use Rattle.dpx_files.specs.declared.job.Job.{Job as AskedJob}
 use Rattle.dpx_files.specs.declared.job.Need.TheVariants as need
-use Rattle.dpx_files.specs.declared.refusal.JobBad.{JobBad}
-use Rattle.dpx_files.specs.Job.{reading, link_asked, plan_asked, events_asked}
+use Rattle.dpx_files.specs.Job.{link_asked, plan_asked, events_asked}
 use Rattle.dpx_watch.specs.declared.state.WatchState.{WatchState}
 use Rattle.dpx_watch.specs.declared.state.WatchState.TheVariants.{Down}
 use Rattle.dpx_watch.specs.Laws.{Taken, Watches, history_of}
@@ -20,14 +19,14 @@ use Rattle.dpx_watch.specs.State.{WatchSeen, state_after, is_up}
 use Rattle.dpx_watch.specs.Step.{WatchStep}
 use Rattle.dpx_cli.specs.declared.stop.Stop.{Stop}
 use Rattle.dpx_cli.specs.declared.stop.Stop.TheVariants.{OutFault, NoMemory}
-use Rattle.dpx_cli.specs.Jobs.{HasJob, ReadsAsNone}
+use Rattle.dpx_cli.specs.Jobs.{HasJob}
 use Rattle.dpx_cli.specs.Printing.{StepPrints, StepsDo}
 use Rattle.dpx_cli.specs.Step.{Step, ◌⇒◌}
 use Rattle.dpx_cli.specs.Watch.{WatchedWith, JobWatched, EventsTaken, EventsReported, WatchCauses, events_of}
 use Rattle.dpx_cli.specs.WatchLines.{event_line, watch_lines}
 use Rattle.dpx_cli.specs.Watching.{EventTaken, EventsAreTaken, EventsAreWatched}
 use Rattle.dpx_cli.proofs.Printings.{prints_nothing}
-use Rattle.dpx_cli.proofs.Reportings.{AreReports}
+use Rattle.dpx_cli.proofs.Reportings.{AreReports, not_none}
 
 pub events_more : (ts : List Taken) (t : Taken) → events_of (ts ++ t ∷ []) ≡ events_of ts ++ t.event ∷ []
 events_more ts t = map-append (λ (one : Taken). one.event) ts (t ∷ [])
@@ -168,12 +167,6 @@ taken_front {watch_now = watch_now} all left why h e divided = record {
   written = tt;
 }
 
-not_none : (left : Option (List ℕ)) (asked : AskedJob)
-    → IfSome left (λ bytes. reading need.Watch bytes ≡ Ok asked) → IsSomeAnd left (ReadsAsNone need.Watch) → ⊥
-not_none None asked reads none = none
-not_none (Some bytes) asked reads none =
-    let clash = subst (λ (read : Result AskedJob JobBad). IsErr read) reads none in absurd cc
-
 pub events_are_reports : (src : Step SourceSeen) (port : Step (PortState SinkPlan))
     → AreReports need.Watch src (EventsTaken src port) (EventsReported src port)
 events_are_reports src port = record {
@@ -188,26 +181,29 @@ events_are_reports src port = record {
     λ e. omega (arith, e, r.status_is),
   );
   calm = λ status text r. r.watched.has.calm;
-  reads = λ status text r. not_none src.before.left r.watched.asked r.watched.has.reads;
+  reads = λ status text r. not_none need.Watch src.before.left r.watched.asked r.watched.has.reads;
 }
 
 module _ (src : Step SourceSeen) (port : Step (PortState SinkPlan)) (PortKept : Type 0) (out out_now : SinkSeen)
     (asked : AskedJob) (has : HasJob need.Watch src asked) (plan : SinkPlan) (loads : plan_asked asked ≡ Some plan)
-    (events : List PortEvent) (told : events_asked asked ≡ Some events) where
+    (link : Link) (over : link_asked asked ≡ Some link) (events : List PortEvent)
+    (told : events_asked asked ≡ Some events) where
   job_watched : (taken : List Taken) (left : List PortEvent) → events ≡ events_of taken ++ left
-      → WatchedWith (link_asked asked) plan port taken → JobWatched src port taken left
+      → WatchedWith link plan port taken → JobWatched src port taken left
   job_watched taken left all watched = record {
     asked = asked;
     has = has;
     plan = plan;
     loads = loads;
     told = told ∙ ap (λ es. Some es) all;
+    link = link;
+    over = over;
     watched = watched;
   }
 
   -- the events were taken as far as there was memory for their lines, and nothing was printed
   pub watching_stopped : {E : Type 0} (why : E) (report : Step (List ℕ))
-      → EventsAreWatched (link_asked asked) plan events port report (Err why)
+      → EventsAreWatched link plan events port report (Err why)
       → StepsDo (WatchCauses src port PortKept) (out ⇒ out) (Err NoMemory)
   watching_stopped why report w = record {
     said = [];
@@ -220,7 +216,7 @@ module _ (src : Step SourceSeen) (port : Step (PortState SinkPlan)) (PortKept : 
   }
 
   module _ {E : Type 0} (report : Step (List ℕ)) (empty : report.before ≡ [])
-      (w : EventsAreWatched {E = E} (link_asked asked) plan events port report (Ok tt)) where
+      (w : EventsAreWatched {E = E} link plan events port report (Ok tt)) where
     all_watched : JobWatched src port w.taken []
     all_watched = subst (JobWatched src port w.taken) w.whole (job_watched w.taken w.left w.all w.watched)
 

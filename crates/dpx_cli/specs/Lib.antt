@@ -1,5 +1,8 @@
 pub mod Commands
 pub mod Digits
+pub mod Edid
+pub mod EdidLines
+pub mod Fetching
 pub mod Jobs
 pub mod Lines
 pub mod Printing

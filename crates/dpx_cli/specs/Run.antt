@@ -33,8 +33,10 @@ module _ (src : Step SourceSeen) (port : Step (PortState SinkPlan)) where
     pub asks : shape_asked asked ≡ Some shape
     pub plan : SinkPlan
     pub loads : plan_asked asked ≡ Some plan
+    pub top : Link
+    pub trains : link_asked asked ≡ Some top
     pub end : TrainEnd
-    pub trained : TrainedWith (link_asked asked) plan port end
+    pub trained : TrainedWith top plan port end
     pub over : trained_link end ≡ Some link
     pub reported : said ≡ train_report end
 
@@ -58,8 +60,10 @@ pub record TrainedAndSent (port : Step (PortState SinkPlan)) (pixels : Option (L
     : Type 0 where
   pub plan : SinkPlan
   pub loads : plan_asked asked ≡ Some plan
+  pub top : Link
+  pub trains : link_asked asked ≡ Some top
   pub end : TrainEnd
-  pub trained : TrainedWith (link_asked asked) plan port end
+  pub trained : TrainedWith top plan port end
   pub decided : StatusOfTrained pixels (shape_asked asked) (trained_link end) status
 
 -- The status by what the job's bytes say, by how training ended, and by the pixels.

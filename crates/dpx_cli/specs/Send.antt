@@ -23,7 +23,7 @@ module _ (src : Step SourceSeen) where
     pub asked : Job
     pub has : HasJob need.Send src asked
     pub asks : shape_asked asked ≡ Some shape
-    pub over : link ≡ link_asked asked
+    pub over : link_asked asked ≡ Some link
     pub nothing : said ≡ []
 
   -- there is no job, for this reason
@@ -41,7 +41,8 @@ IsSendStatus n = (n ≡ 0) ⊎ (n ≡ 3) ⊎ (n ≡ 5) ⊎ (n ≡ 7) ⊎ (n ≡ 
 
 -- The status by what the job's bytes say, and by the pixels.
 abbrev pub StatusOfSend : Option (List Pixel) → Result Job JobBad → ℕ → Type 0
-StatusOfSend pixels (Ok asked) status = StatusOfShape pixels (shape_asked asked) (link_asked asked) status
+StatusOfSend pixels (Ok asked) status =
+    IfSome (link_asked asked) (λ link. StatusOfShape pixels (shape_asked asked) link status)
 StatusOfSend pixels (Err bad) status = status ≡ 3
 
 module _ (src : Step SourceSeen) (pipe : Step PipeState) (pix : Step SinkSeen) (Kept : Type 0) where

@@ -13,13 +13,14 @@ use Rattle.dpx_cli.specs.declared.stop.JobRefusal.{JobRefusal}
 use Rattle.dpx_cli.specs.declared.stop.JobRefusal.TheVariants.{TooLong, NotJson, Wrong}
 use Rattle.dpx_cli.specs.declared.stop.Stop.{Stop}
 use Rattle.dpx_cli.specs.declared.stop.Stop.TheVariants as stop
+use Rattle.dpx_cli.specs.EdidLines.{unfetched_line, bad_edid_line}
 use Rattle.dpx_cli.specs.Lines.{line_feed, train_report}
 use Rattle.dpx_cli.specs.RecvLines.{header_line, word_line, set_line, finish_line}
 use Rattle.dpx_cli.specs.SendLines.{unfit_line, bad_pixel_line, pixels_ended_line}
 
 abbrev pub usage_line : List ℕ
 usage_line =
-    codes "usage: dp_replay train JOB | send JOB PIXELS CAPTURE [one|lanes] | run JOB PIXELS CAPTURE [one|lanes] | recv CAPTURE PIXELS [one|lanes] | gen SEED [one|lanes] | watch JOB\n"
+    codes "usage: dp_replay train JOB | send JOB PIXELS CAPTURE [one|lanes] | run JOB PIXELS CAPTURE [one|lanes] | recv CAPTURE PIXELS [one|lanes] | gen SEED [one|lanes] | edid JOB | watch JOB\n"
 
 abbrev pub memory_line : List ℕ
 memory_line = codes "memory\n"
@@ -63,6 +64,7 @@ stop_status (stop.Job why) = 3
 stop_status (stop.BadPixel number value) = 3
 stop_status (stop.PixelsEnded number) = 3
 stop_status (stop.Untrained end) = 4
+stop_status (stop.Unfetched end) = 4
 stop_status (stop.Unfit why) = 5
 stop_status (stop.Capture why) = 6
 stop_status stop.ReadFault = 7
@@ -70,6 +72,7 @@ stop_status stop.WriteFault = 8
 stop_status stop.OutFault = 8
 stop_status stop.PipeFault = 9
 stop_status stop.NoMemory = 10
+stop_status (stop.BadEdid why requests) = 13
 
 abbrev pub job_line : JobRefusal → List ℕ
 job_line TooLong = codes "job too long\n"
@@ -89,6 +92,8 @@ stop_lines stop.Usage = usage_line
 stop_lines (stop.Job why) = job_line why
 stop_lines (stop.Untrained end) = train_report end
 stop_lines (stop.Unfit why) = unfit_line why
+stop_lines (stop.Unfetched end) = unfetched_line end
+stop_lines (stop.BadEdid why requests) = bad_edid_line why requests
 stop_lines (stop.BadPixel number value) = bad_pixel_line number value
 stop_lines (stop.PixelsEnded number) = pixels_ended_line number
 stop_lines (stop.Capture why) = capture_line why

@@ -71,7 +71,9 @@ pub record JobTrained (need : Need) (src : Step SourceSeen) (port : Step (PortSt
   pub has : HasJob need src asked
   pub plan : SinkPlan
   pub asks : plan_asked asked ≡ Some plan
-  pub trained : TrainedWith (link_asked asked) plan port end
+  pub top : Link
+  pub trains : link_asked asked ≡ Some top
+  pub trained : TrainedWith top plan port end
 
 module _ (need : Need) (src : Step SourceSeen) (port : Step (PortState SinkPlan)) where
   -- the job was trained, and that ended so, whatever was printed of it

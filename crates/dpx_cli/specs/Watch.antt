@@ -48,7 +48,9 @@ module _ (src : Step SourceSeen) (port : Step (PortState SinkPlan)) where
     pub plan : SinkPlan
     pub loads : plan_asked asked ≡ Some plan
     pub told : events_asked asked ≡ Some (events_of taken ++ left)
-    pub watched : WatchedWith (link_asked asked) plan port taken
+    pub link : Link
+    pub over : link_asked asked ≡ Some link
+    pub watched : WatchedWith link plan port taken
 
   -- some first events were taken
   pub record EventsTaken : Type 0 where

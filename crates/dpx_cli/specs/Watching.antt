@@ -1,5 +1,5 @@
 -- Events taken as a step of a command: this project's own. `port` is the AUX port, `report` the text of the report.
-use Rattle.std.specs.Prelude.{◌≡◌, ℕ, ◌+◌, ◌≤◌, List, [], ◌++◌, OnOk, Result, ⊤}
+use Rattle.std.specs.Prelude.{◌≡◌, ℕ, List, [], ◌++◌, OnOk, Result, ⊤}
 use Rattle.dpx_base.specs.declared.link.Link.{Link}
 use Rattle.dpx_base.specs.declared.port_event.PortEvent.{PortEvent}
 use Rattle.dpx_base.specs.Port.{PortState, Added, asks}

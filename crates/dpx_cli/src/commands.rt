@@ -5,7 +5,8 @@ ghost use Rattle.dpx_link.specs.Training.{training_entries};
 ghost use Rattle.dpx_watch.specs.Step.{step_entries};
 ghost use Rattle.dpx_words.specs.Reading.{command_in};
 ghost use Rattle.dpx_cli.specs.declared.stop.Stop.{Stop};
-ghost use Rattle.dpx_cli.specs.Commands.{IsTrain, IsSend, IsRun, IsRecv, IsWatch};
+ghost use Rattle.dpx_cli.specs.Commands.{IsTrain, IsSend, IsRun, IsRecv, IsEdid, IsWatch};
+ghost use Rattle.dpx_cli.specs.Edid.{EdidDoes};
 ghost use Rattle.dpx_cli.specs.Printing.{StopsAtOnce};
 ghost use Rattle.dpx_cli.specs.Recv.{RecvDoes};
 ghost use Rattle.dpx_cli.specs.Run.{RunDoes};
@@ -16,6 +17,7 @@ ghost use Rattle.dpx_cli.specs.Watch.{WatchDoes};
 ghost use Rattle.dpx_cli.specs.Train.{SaysTrained, TrainDoes};
 ghost use Rattle.dpx_cli.specs.Transfer.{Prints, PrintsFirst};
 
+use crate::edid::edid;
 use crate::printing::print_stop;
 use crate::recv::recv;
 use crate::run::run;
@@ -39,9 +41,10 @@ use std::thread::Threads;
 ///
 /// * 0: all was done
 /// * 2: the words have no reading; 3: the job has none, or a pixel is out of range, or pixels are missing
-/// * 4: not trained, capabilities refused, or an AUX transaction failed; 5: the mode does not fit the link
-/// * 6: the capture is refused
+/// * 4: not trained, capabilities refused, an AUX transaction failed, or no EDID was fetched
+/// * 5: the mode does not fit the link; 6: the capture is refused
 /// * 7: a read failed; 8: a write failed; 9: the pipe failed; 10: want of memory
+/// * 13: the EDID is refused
 pub fn replay<S: Source, T: Pipe, P: LoadPort, O: Sink, R: Threads + Sync>(
     rt: &R,
     alloc: Global,
@@ -103,6 +106,9 @@ pub fn replay<S: Source, T: Pipe, P: LoadPort, O: Sink, R: Threads + Sync>(
     ensures recv { IsSomeAnd (command_in words.now) IsRecv → RecvDoes (S.seen src.old ⇒ S.seen src.new)
         (O.seen pix.old ⇒ O.seen pix.new) (pix.new ≡ pix.old) (O.seen out.old ⇒ O.seen out.new) result }
     ensures recv_keeps { IsSomeAnd (command_in words.now) IsRecv → (pipe.new ≡ pipe.old) × (aux.new ≡ aux.old) }
+    ensures edid { IsSomeAnd (command_in words.now) IsEdid → EdidDoes (S.seen src.old ⇒ S.seen src.new)
+        (P.state aux.old ⇒ P.state aux.new) (aux.new ≡ aux.old) (O.seen out.old ⇒ O.seen out.new) result }
+    ensures edid_keeps { IsSomeAnd (command_in words.now) IsEdid → (pipe.new ≡ pipe.old) × (pix.new ≡ pix.old) }
     ensures watch { IsSomeAnd (command_in words.now) IsWatch → WatchDoes (S.seen src.old ⇒ S.seen src.new)
         (P.state aux.old ⇒ P.state aux.new) (aux.new ≡ aux.old) (O.seen out.old ⇒ O.seen out.new) result }
     ensures watch_keeps { IsSomeAnd (command_in words.now) IsWatch → (pipe.new ≡ pipe.old) × (pix.new ≡ pix.old) }
@@ -173,6 +179,9 @@ pub fn replay_gated<S: Source, T: Pipe, P: LoadPort, O: Sink, G: Gate, R: Thread
     ensures recv { IsSomeAnd (command_in words.now) IsRecv → RecvDoes (S.seen src.old ⇒ S.seen src.new)
         (O.seen pix.old ⇒ O.seen pix.new) (pix.new ≡ pix.old) (O.seen out.old ⇒ O.seen out.new) result }
     ensures recv_keeps { IsSomeAnd (command_in words.now) IsRecv → (pipe.new ≡ pipe.old) × (aux.new ≡ aux.old) }
+    ensures edid { IsSomeAnd (command_in words.now) IsEdid → EdidDoes (S.seen src.old ⇒ S.seen src.new)
+        (P.state aux.old ⇒ P.state aux.new) (aux.new ≡ aux.old) (O.seen out.old ⇒ O.seen out.new) result }
+    ensures edid_keeps { IsSomeAnd (command_in words.now) IsEdid → (pipe.new ≡ pipe.old) × (pix.new ≡ pix.old) }
     ensures watch { IsSomeAnd (command_in words.now) IsWatch → WatchDoes (S.seen src.old ⇒ S.seen src.new)
         (P.state aux.old ⇒ P.state aux.new) (aux.new ≡ aux.old) (O.seen out.old ⇒ O.seen out.new) result }
     ensures watch_keeps { IsSomeAnd (command_in words.now) IsWatch → (pipe.new ≡ pipe.old) × (pix.new ≡ pix.old) }
@@ -191,6 +200,7 @@ pub fn replay_gated<S: Source, T: Pipe, P: LoadPort, O: Sink, G: Gate, R: Thread
             run(rt, alloc, src, pipe, aux, pix, out, workers, gate)
         }
         Ok(Command::Recv { workers, .. }) => recv(rt, alloc, src, pix, out, workers, gate),
+        Ok(Command::Edid { .. }) => edid(alloc, src, aux, out),
         Ok(Command::Watch { .. }) => watch(alloc, src, aux, out),
         Err(WordsEnd::Usage) => print_stop(alloc, out, &Stop::Usage),
         Err(WordsEnd::Memory) => print_stop(alloc, out, &Stop::NoMemory),

@@ -1,14 +1,18 @@
 //! The commands of dp_replay: their words, their reports, and the top call.
 //!
 //! * `commands`: the top call, which finds the command in the words
-//! * `train`, `send`, `run`, `recv`: the commands of these names
-//! * `job`, `training`, `sending`, `receiving`: steps of commands
+//! * `train`, `send`, `run`, `recv`, `edid`, `watch`: the commands of these names
+//! * `job`, `training`, `sending`, `receiving`, `fetching`, `watching`: steps of commands
 //! * `transfer`: whole reads, whole writes
 //! * `stop`, `printing`: why a command stops, what is printed and with which status it ends
-//! * `report`, `lines`, `send_lines`, `recv_lines`: the text of a report as it grows, and its lines
+//! * `report`, `lines`, `send_lines`, `recv_lines`, `edid_lines`, `watch_lines`: the text of a report as it grows, and
+//!   its lines
 #![tactic(auto)]
 
 mod commands;
+mod edid;
+mod edid_lines;
+mod fetching;
 mod job;
 mod lines;
 mod printing;

@@ -1,10 +1,12 @@
 ghost use Rattle.std.specs.Prelude.{◌≡◌};
+ghost use Rattle.dpx_cli.specs.EdidLines.{edid_report};
 ghost use Rattle.dpx_cli.specs.Lines.{train_report};
 ghost use Rattle.dpx_cli.specs.RecvLines.{received_line};
 ghost use Rattle.dpx_cli.specs.SendLines.{plan_line, sent_line};
 ghost use Rattle.dpx_cli.specs.Printing.{StepPrints, EndsWith, Finishes, StopsAtOnce};
 ghost use Rattle.dpx_cli.specs.Step.{◌⇒◌};
 
+use crate::edid_lines::push_edid;
 use crate::lines::push_train_end;
 use crate::recv_lines::push_received;
 use crate::report::Report;
@@ -12,6 +14,7 @@ use crate::send_lines::{push_plan, push_sent};
 use crate::stop::{MEMORY, Stop};
 use crate::transfer::write_text;
 use dpx_base::Sink;
+use dpx_edid::Edid;
 use dpx_link::TrainEnd;
 use dpx_sink::Received;
 use dpx_timing::Plan;
@@ -58,6 +61,20 @@ pub(crate) fn print_received<O: Sink>(
 {
     let mut report = Report::new(alloc);
     push_received(&mut report, received)?;
+    print(out, &report)
+}
+
+/// Prints what a base block says, which was fetched with so many requests.
+pub(crate) fn print_edid<O: Sink>(
+    alloc: Global,
+    out: &mut O,
+    edid: &Edid,
+    requests: u32,
+) -> Result<(), Stop>
+    ensures { StepPrints (O.seen out.old ⇒ O.seen out.new) (edid_report edid.now requests) result }
+{
+    let mut report = Report::new(alloc);
+    push_edid(&mut report, edid, requests)?;
     print(out, &report)
 }
 

@@ -1,11 +1,13 @@
 ghost use Rattle.std.specs.Prelude.{◌≡◌, ◌++◌, OnOk};
 ghost use Rattle.dpx_cli.specs.Stop.{stop_lines, stop_status, job_line, capture_line, stop_of_job};
 
+use crate::edid_lines::{push_bad_edid, push_unfetched};
 use crate::lines::push_train_end;
 use crate::recv_lines::{push_bad_set, push_bad_word, push_finish_end, push_header};
 use crate::report::Report;
 use crate::send_lines::{push_bad_pixel, push_pixels_ended, push_unfit};
 use dpx_align::AlignBad;
+use dpx_edid::{EdidBad, FetchEnd};
 use dpx_files::{Field, JobBad};
 use dpx_link::TrainEnd;
 use dpx_parse::ParseBad;
@@ -45,6 +47,10 @@ pub(crate) enum Stop {
     Untrained(TrainEnd),
     /// The mode does not fit the link.
     Unfit(Unfit),
+    /// No base block was fetched.
+    Unfetched(FetchEnd),
+    /// A base block is refused, which was fetched with so many requests.
+    BadEdid { why: EdidBad, requests: u32 },
     /// This pixel, counted over all frames, has this component out of range.
     BadPixel { number: u64, value: u16 },
     /// The pipe holds so many pixels, and a further one is due.
@@ -60,7 +66,7 @@ pub(crate) enum Stop {
 }
 
 const USAGE: &str =
-    "usage: dp_replay train JOB | send JOB PIXELS CAPTURE [one|lanes] | run JOB PIXELS CAPTURE [one|lanes] | recv CAPTURE PIXELS [one|lanes] | gen SEED [one|lanes] | watch JOB\n";
+    "usage: dp_replay train JOB | send JOB PIXELS CAPTURE [one|lanes] | run JOB PIXELS CAPTURE [one|lanes] | recv CAPTURE PIXELS [one|lanes] | gen SEED [one|lanes] | edid JOB | watch JOB\n";
 
 pub(crate) const MEMORY: &str = "memory\n";
 
@@ -97,12 +103,14 @@ impl Stop {
             Stop::Job(_) => 3,
             Stop::BadPixel { .. } | Stop::PixelsEnded(_) => 3,
             Stop::Untrained(_) => 4,
+            Stop::Unfetched(_) => 4,
             Stop::Unfit(_) => 5,
             Stop::Capture(_) => 6,
             Stop::ReadFault => 7,
             Stop::WriteFault | Stop::OutFault => 8,
             Stop::PipeFault => 9,
             Stop::NoMemory => 10,
+            Stop::BadEdid { .. } => 13,
         }
     }
 
@@ -115,6 +123,8 @@ impl Stop {
             Stop::Job(why) => push_job(report, why),
             Stop::Untrained(end) => push_train_end(report, end),
             Stop::Unfit(why) => push_unfit(report, *why),
+            Stop::Unfetched(end) => push_unfetched(report, *end),
+            Stop::BadEdid { why, requests } => push_bad_edid(report, *why, *requests),
             Stop::BadPixel { number, value } => push_bad_pixel(report, *number, *value),
             Stop::PixelsEnded(number) => push_pixels_ended(report, *number),
             Stop::Capture(why) => push_capture(report, *why),

@@ -69,6 +69,13 @@ run_of value = do
   sink ← sink_of root
   Ok (job.Run link shape sink)
 
+-- what it says to `edid`
+unfoldable pub edid_of : Data → Result Job Field
+edid_of value = do
+  root ← object_in field.Root (Some value)
+  sink ← sink_of root
+  Ok (job.Edid sink)
+
 -- what it says to `watch`
 unfoldable pub watch_of : Data → Result Job Field
 watch_of value = do
@@ -93,22 +100,25 @@ abbrev pub job_of : Need → Data → Result Job Field
 job_of need.Train value = train_of value
 job_of need.Send value = send_of value
 job_of need.Run value = run_of value
+job_of need.Edid value = edid_of value
 job_of need.Watch value = watch_of value
 job_of need.Judge value = judge_of value
 
--- the link that a job asks for
-abbrev pub link_asked : Job → Link
-link_asked (job.Train link sink) = link
-link_asked (job.Send link shape) = link
-link_asked (job.Run link shape sink) = link
-link_asked (job.Watch link sink events) = link
-link_asked (job.Judge link entries) = link
+-- the link that a job asks for, where it asks for one
+abbrev pub link_asked : Job → Option Link
+link_asked (job.Train link sink) = Some link
+link_asked (job.Send link shape) = Some link
+link_asked (job.Run link shape sink) = Some link
+link_asked (job.Edid sink) = None
+link_asked (job.Watch link sink events) = Some link
+link_asked (job.Judge link entries) = Some link
 
 -- what its sink is to answer, where it has one
 abbrev pub plan_asked : Job → Option SinkPlan
 plan_asked (job.Train link sink) = Some sink
 plan_asked (job.Send link shape) = None
 plan_asked (job.Run link shape sink) = Some sink
+plan_asked (job.Edid sink) = Some sink
 plan_asked (job.Watch link sink events) = Some sink
 plan_asked (job.Judge link entries) = None
 
@@ -117,6 +127,7 @@ abbrev pub shape_asked : Job → Option Shape
 shape_asked (job.Train link sink) = None
 shape_asked (job.Send link shape) = Some shape
 shape_asked (job.Run link shape sink) = Some shape
+shape_asked (job.Edid sink) = None
 shape_asked (job.Watch link sink events) = None
 shape_asked (job.Judge link entries) = None
 
@@ -125,6 +136,7 @@ abbrev pub events_asked : Job → Option (List PortEvent)
 events_asked (job.Train link sink) = None
 events_asked (job.Send link shape) = None
 events_asked (job.Run link shape sink) = None
+events_asked (job.Edid sink) = None
 events_asked (job.Watch link sink events) = Some events
 events_asked (job.Judge link entries) = None
 
@@ -133,6 +145,7 @@ abbrev pub need_of : Job → Need
 need_of (job.Train link sink) = need.Train
 need_of (job.Send link shape) = need.Send
 need_of (job.Run link shape sink) = need.Run
+need_of (job.Edid sink) = need.Edid
 need_of (job.Watch link sink events) = need.Watch
 need_of (job.Judge link entries) = need.Judge
 

@@ -1,8 +1,8 @@
 ghost use Rattle.std.specs.Prelude.{◌≡◌, ◌<◌, ◌≤◌, ◌↔◌, length, None, IfOk, IfSome, IsErr, IsErrOf};
 ghost use Rattle.serde_json.specs.View.{view};
 ghost use Rattle.dpx_dpcd.specs.Model.{IsPlan};
-ghost use Rattle.dpx_files.specs.Job.{reading, job_of, train_of, send_of, run_of, watch_of, judge_of, sink_of, longest_job};
-ghost use Rattle.dpx_files.specs.Job.{plan_asked, shape_asked, events_asked, need_of, IsJob};
+ghost use Rattle.dpx_files.specs.Job.{reading, job_of, train_of, send_of, run_of, edid_of, watch_of, judge_of};
+ghost use Rattle.dpx_files.specs.Job.{sink_of, longest_job, plan_asked, shape_asked, events_asked, need_of, IsJob};
 ghost use Rattle.dpx_files.specs.Events.{most_events};
 ghost use Rattle.dpx_files.specs.Members.{json_of};
 ghost use Rattle.dpx_files.specs.Refusal.{GivesUnlessMemory, refused};
@@ -27,6 +27,7 @@ pub enum Need {
     Train,
     Send,
     Run,
+    Edid,
     Watch,
     Judge,
 }
@@ -48,6 +49,10 @@ pub enum Job {
     Run {
         link: Link,
         shape: Shape,
+        sink: SinkPlan,
+    },
+    /// Fetch the EDID of this sink.
+    Edid {
         sink: SinkPlan,
     },
     /// Supervise this link with this sink through these events.
@@ -96,6 +101,7 @@ fn job_of(alloc: Global, value: &Value, need: Need) -> Result<Job, JobBad>
         Need::Train => train_job(alloc, value),
         Need::Send => Ok(send_job(value)?),
         Need::Run => run_job(alloc, value),
+        Need::Edid => edid_job(alloc, value),
         Need::Watch => watch_job(alloc, value),
         Need::Judge => judge_job(alloc, value),
     }
@@ -137,6 +143,17 @@ fn run_job(alloc: Global, value: &Value) -> Result<Job, JobBad>
     let shape = read_shape(root)?;
     let sink = read_sink(alloc, root)?;
     Ok(Job::Run { link, shape, sink })
+}
+
+#[tactic(auto, unfolding(crate::specs::Job::edid_of))]
+fn edid_job(alloc: Global, value: &Value) -> Result<Job, JobBad>
+    ensures exact { GivesUnlessMemory (refused (edid_of (view value.now))) result }
+    ensures good { IfOk result IsJob }
+    ensures kind { IfOk result (λ job. need_of job ≡ Need.Edid) }
+{
+    let root = object_in(Field::Root, Some(value))?;
+    let sink = read_sink(alloc, root)?;
+    Ok(Job::Edid { sink })
 }
 
 #[tactic(auto, unfolding(crate::specs::Job::watch_of))]

@@ -8,7 +8,7 @@ use Rattle.dpx_base.specs.declared.workers.Workers.{Workers}
 use Rattle.dpx_base.specs.declared.workers.Workers.TheVariants.{One, Lanes}
 use Rattle.dpx_words.specs.Dashes.{has_dash}
 use Rattle.dpx_words.specs.declared.command.Command.{Command}
-use Rattle.dpx_words.specs.declared.command.Command.TheVariants.{Train, Send, Run, Recv, Watch}
+use Rattle.dpx_words.specs.declared.command.Command.TheVariants.{Train, Send, Run, Recv, Edid, Watch}
 use Rattle.dpx_words.specs.declared.command.WordsEnd.{WordsEnd}
 use Rattle.dpx_words.specs.declared.command.WordsEnd.TheVariants.{Usage, Memory}
 use Rattle.dpx_words.specs.declared.verbs.Sending.{Sending}
@@ -33,6 +33,9 @@ only_of _ = None
 -- the words behind the first one of each command
 abbrev pub train_of : List (List ℕ) → Option Command
 train_of rest = option_map (λ job. Train job) (only_of rest)
+
+abbrev pub edid_of : List (List ℕ) → Option Command
+edid_of rest = option_map (λ job. Edid job) (only_of rest)
 
 abbrev pub watch_of : List (List ℕ) → Option Command
 watch_of rest = option_map (λ job. Watch job) (only_of rest)
@@ -60,6 +63,7 @@ command_of (verb ∷ rest) =
     else if bytes_eq verb (codes "send") then send_of rest
     else if bytes_eq verb (codes "run") then run_of rest
     else if bytes_eq verb (codes "recv") then recv_of rest
+    else if bytes_eq verb (codes "edid") then edid_of rest
     else if bytes_eq verb (codes "watch") then watch_of rest
     else None
 

@@ -62,6 +62,10 @@ pub enum Command {
         pixels: Name,
         workers: Workers,
     },
+    /// Fetch the EDID of the job's sink.
+    Edid {
+        job: Name,
+    },
     /// Supervise the job's link through its events.
     Watch {
         job: Name,

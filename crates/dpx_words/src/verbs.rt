@@ -1,5 +1,6 @@
 ghost use Rattle.std.specs.Prelude.{map};
-ghost use Rattle.dpx_words.specs.Reading.{WordsRead, train_of, sending_of, send_of, run_of, recv_of, command_of, only_of, watch_of};
+ghost use Rattle.dpx_words.specs.Reading.{WordsRead, train_of, sending_of, send_of, run_of, recv_of, command_of, only_of};
+ghost use Rattle.dpx_words.specs.Reading.{edid_of, watch_of};
 
 use crate::arguments::read_workers;
 use crate::{Command, Name, WordsEnd};
@@ -18,6 +19,7 @@ pub(crate) fn read_command(alloc: Global, words: &[&str]) -> Result<Command, Wor
         "send" => read_send(alloc, rest),
         "run" => read_run(alloc, rest),
         "recv" => read_recv(alloc, rest),
+        "edid" => read_edid(alloc, rest),
         "watch" => read_watch(alloc, rest),
         _ => Err(WordsEnd::Usage),
     }
@@ -38,6 +40,13 @@ fn read_train(alloc: Global, rest: &[&str]) -> Result<Command, WordsEnd>
 {
     let job = read_only(alloc, rest)?;
     Ok(Command::Train { job })
+}
+
+fn read_edid(alloc: Global, rest: &[&str]) -> Result<Command, WordsEnd>
+    ensures { WordsRead (edid_of (map (λ word. word.now) rest.now)) result }
+{
+    let job = read_only(alloc, rest)?;
+    Ok(Command::Edid { job })
 }
 
 fn read_watch(alloc: Global, rest: &[&str]) -> Result<Command, WordsEnd>

@@ -7,7 +7,7 @@ use std::thread::Threads;
 
 const USAGE: &str = "usage: dp_replay train JOB | send JOB PIXELS CAPTURE [one|lanes] \
     | run JOB PIXELS CAPTURE [one|lanes] | recv CAPTURE PIXELS [one|lanes] | gen SEED [one|lanes] \
-    | watch JOB\n";
+    | edid JOB | watch JOB\n";
 
 /// These words have no reading.
 fn is_usage<R: Abort + Threads + Sync>(rt: &R, alloc: Global, words: &str) -> Result<(), Fail> {
@@ -27,6 +27,8 @@ fn words_without_a_reading_are_usage(rt: HostRuntime) -> Result<(), Fail> {
         "train -job",
         "Train a",
         "job.json train",
+        "edid",
+        "edid a b",
     ] {
         is_usage(&rt, rt.alloc(), words)?;
     }

@@ -1,7 +1,6 @@
 use Rattle.std.proofs.Common.{◌≡◌, rules, refl, Ok, Err}
 use Rattle.std.proofs.lemmas.Result.{err_from_is_err_and}
 use Rattle.dpx_files.specs.declared.job.Need.TheVariants.{Run}
-use Rattle.dpx_files.specs.Job.{link_asked}
 use Rattle.dpx_cli.specs.Jobs.{HasJob}
 use Rattle.dpx_cli.specs.Printing.{StepsDo}
 use Rattle.dpx_cli.specs.Sending.{ShapeSent}
@@ -24,10 +23,10 @@ returns-clause-steps g c =
     let job = c.in_ok-link.field-0 in
     let has : HasJob Run src job = search rules in
     let link = c.in_ok-trained-in-Run.trained in
-    let step : TrainStep (link_asked job) c.in-Run.sink port (out ⇒ middle) (Ok link) = search rules in
+    let step : TrainStep c.in-Run.link c.in-Run.sink port (out ⇒ middle) (Ok link) = search rules in
     let sent : StepsDo (ShapeSent c.in-Run.shape link pipe pix kept) (middle ⇒ now) c.send_shape.result = search rules in
-    shape_sent src port port_kept pipe pix kept job has c.in-Run.sink (search rules) out middle link c.in-Run.shape now
-    c.send_shape.result (search rules) step sent
+    shape_sent src port port_kept pipe pix kept job has c.in-Run.sink (search rules) c.in-Run.link (search rules) out middle
+    link c.in-Run.shape now c.send_shape.result (search rules) step sent
 
 pub returns-in_err-trained-in-Run-clause-steps : goal.returns-in_err-trained-in-Run-clause-steps
 returns-in_err-trained-in-Run-clause-steps g c =
@@ -44,6 +43,6 @@ returns-in_err-trained-in-Run-clause-steps g c =
     let job = c.in_ok-link.field-0 in
     let has : HasJob Run src job = search rules in
     let stop = c.in_err-trained-in-Run.field-0.0 in
-    let step : TrainStep (link_asked job) c.in-Run.sink port (out ⇒ middle) (Err stop) = search rules in
-    rw p.1 (training_stopped src port port_kept pipe pix kept job has c.in-Run.sink (search rules) out middle p.0
-    (refl, refl) (rw p.2 step))
+    let step : TrainStep c.in-Run.link c.in-Run.sink port (out ⇒ middle) (Err stop) = search rules in
+    rw p.1 (training_stopped src port port_kept pipe pix kept job has c.in-Run.sink (search rules) c.in-Run.link
+    (search rules) out middle p.0 (refl, refl) (rw p.2 step))

@@ -1,6 +1,5 @@
 use Rattle.std.proofs.Common.{◌≡◌, rules}
 use Rattle.dpx_files.specs.declared.job.Need.TheVariants.{Send}
-use Rattle.dpx_files.specs.Job.{link_asked}
 use Rattle.dpx_cli.specs.Jobs.{HasJob}
 use Rattle.dpx_cli.specs.Printing.{StepsDo}
 use Rattle.dpx_cli.specs.Sending.{ShapeSent}
@@ -17,5 +16,6 @@ returns g c =
     let kept = (c.send_shape.new.pipe ≡ c.args.pipe.now) × (c.send_shape.new.pix ≡ c.args.pix.now) in
     let job = c.in_ok-link.field-0 in
     let has : HasJob Send src job = search rules in
-    let sent : StepsDo (ShapeSent c.in-Send.shape (link_asked job) pipe pix kept) out c.send_shape.result = search rules in
-    steps_of_shape src pipe pix kept job has c.in-Send.shape (search rules) out c.send_shape.result sent
+    let sent : StepsDo (ShapeSent c.in-Send.shape c.in-Send.link pipe pix kept) out c.send_shape.result = search rules in
+    steps_of_shape src pipe pix kept job has c.in-Send.shape (search rules) c.in-Send.link (search rules) out
+    c.send_shape.result sent

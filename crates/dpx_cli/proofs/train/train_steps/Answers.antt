@@ -1,6 +1,5 @@
 use Rattle.std.proofs.Common.{◌≡◌, rules, Ok, Err}
 use Rattle.std.proofs.lemmas.Result.{err_from_is_err_and}
-use Rattle.dpx_files.specs.Job.{link_asked}
 use Rattle.dpx_cli.specs.Jobs.{HasJob}
 use Rattle.dpx_files.specs.declared.job.Need.TheVariants.{Train}
 use Rattle.dpx_cli.specs.Step.{◌⇒◌}
@@ -18,8 +17,8 @@ returns-clause-steps g c =
     let job = c.in_ok-link.field-0 in
     let has : HasJob Train src job = search rules in
     let link = c.in_ok-train_link-in-Train.field-0 in
-    let step : TrainStep (link_asked job) c.in-Train.sink port (out ⇒ out_now) (Ok link) = search rules in
-    training_done src port kept out out_now job has c.in-Train.sink (search rules) link step
+    let step : TrainStep c.in-Train.link c.in-Train.sink port (out ⇒ out_now) (Ok link) = search rules in
+    training_done src port kept out out_now job has c.in-Train.sink (search rules) c.in-Train.link (search rules) link step
 
 pub returns-in_err-train_link-in-Train-clause-steps : goal.returns-in_err-train_link-in-Train-clause-steps
 returns-in_err-train_link-in-Train-clause-steps g c =
@@ -33,5 +32,6 @@ returns-in_err-train_link-in-Train-clause-steps g c =
     let job = c.in_ok-link.field-0 in
     let has : HasJob Train src job = search rules in
     let stop = c.in_err-train_link-in-Train.field-0.0 in
-    let step : TrainStep (link_asked job) c.in-Train.sink port (out ⇒ out_now) (Err stop) = search rules in
-    rw p.1 (training_stopped src port kept out out_now job has c.in-Train.sink (search rules) p.0 (rw p.2 step))
+    let step : TrainStep c.in-Train.link c.in-Train.sink port (out ⇒ out_now) (Err stop) = search rules in
+    rw p.1 (training_stopped src port kept out out_now job has c.in-Train.sink (search rules) c.in-Train.link
+    (search rules) p.0 (rw p.2 step))

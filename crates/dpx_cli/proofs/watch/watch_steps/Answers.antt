@@ -1,8 +1,7 @@
-use Rattle.std.proofs.Common.{◌≡◌, refl, rules, Ok, Err, Some}
+use Rattle.std.proofs.Common.{◌≡◌, rules, Ok, Err}
 use Rattle.std.proofs.lemmas.Result.{err_from_is_err_and}
 use Rattle.std.specs.declared.alloc.AllocError.{AllocError}
 use Rattle.dpx_files.specs.declared.job.Need.TheVariants.{Watch}
-use Rattle.dpx_files.specs.Job.{link_asked}
 use Rattle.dpx_cli.specs.Jobs.{HasJob}
 use Rattle.dpx_cli.specs.Step.{◌⇒◌}
 use Rattle.dpx_cli.specs.Watching.{EventsAreWatched}
@@ -20,10 +19,10 @@ returns-in_err-watch_events-in-Watch-clause-steps g c =
     let job = c.in_ok-link.field-0 in
     let has : HasJob Watch src job = search rules in
     let report = c.new-report.result ⇒ c.watch_events.new.report in
-    let watched : EventsAreWatched {E = AllocError} (link_asked job) c.in-Watch.sink c.in-Watch.events port report
+    let watched : EventsAreWatched {E = AllocError} c.in-Watch.link c.in-Watch.sink c.in-Watch.events port report
     (Err c.in_err-watch_events-in-Watch.field-0.0) = search rules in
-    rw (p.1, p.2) (watching_stopped src port kept out out job has c.in-Watch.sink (search rules) c.in-Watch.events
-    (search rules) c.in_err-watch_events-in-Watch.field-0.0 report watched)
+    rw (p.1, p.2) (watching_stopped src port kept out out job has c.in-Watch.sink (search rules) c.in-Watch.link
+    (search rules) c.in-Watch.events (search rules) c.in_err-watch_events-in-Watch.field-0.0 report watched)
 
 pub returns-clause-steps : goal.returns-clause-steps
 returns-clause-steps g c =
@@ -35,7 +34,7 @@ returns-clause-steps g c =
     let job = c.in_ok-link.field-0 in
     let has : HasJob Watch src job = search rules in
     let report = c.new-report.result ⇒ c.watch_events.new.report in
-    let watched : EventsAreWatched {E = AllocError} (link_asked job) c.in-Watch.sink c.in-Watch.events port report (Ok tt) =
+    let watched : EventsAreWatched {E = AllocError} c.in-Watch.link c.in-Watch.sink c.in-Watch.events port report (Ok tt) =
     search rules in
-    watching_printed src port kept out out_now job has c.in-Watch.sink (search rules) c.in-Watch.events
-    (search rules) report c.new-report.ensures watched c.print.result c.print.ensures
+    watching_printed src port kept out out_now job has c.in-Watch.sink (search rules) c.in-Watch.link
+    (search rules) c.in-Watch.events (search rules) report c.new-report.ensures watched c.print.result c.print.ensures

@@ -73,15 +73,19 @@ fn changed(rt: &impl Abort, changes: &[(usize, u8)], wanted: Says) {
     slot_says(rt, &read_timing(&bytes), wanted);
 }
 
-/// The timing with these bytes changed has these numbers at these places.
-fn differs(rt: &impl Abort, changes: &[(usize, u8)], fields: &[(usize, u32)]) {
-    let mut wanted = FULL_HD_SAYS;
+/// The numbers with these in place of those at these places.
+fn with(mut numbers: Numbers, fields: &[(usize, u32)]) -> Numbers {
     for (place, number) in fields {
-        if let Some(old) = wanted.get_mut(*place) {
+        if let Some(old) = numbers.get_mut(*place) {
             *old = *number;
         }
     }
-    changed(rt, changes, Says::Mode(wanted));
+    numbers
+}
+
+/// The timing with these bytes changed has these numbers at these places.
+fn differs(rt: &impl Abort, changes: &[(usize, u8)], fields: &[(usize, u32)]) {
+    changed(rt, changes, Says::Mode(with(FULL_HD_SAYS, fields)));
 }
 
 const WIDTH: usize = 0;
@@ -238,130 +242,54 @@ fn polarities_are_those_of_digital_separate_pulses(rt: HostRuntime) {
     }
 }
 
-/// 1920 × 1080 pixels, with these fields changed by the function, has a timing or none.
-fn has_timing(rt: &impl Abort, raw: &RawMode, has: bool) {
-    let mode = Mode::read(raw).expect(rt, "a legal mode");
+/// The greatest mode that has a timing.
+const GREATEST: Numbers = [4095, 4095, 8190, 8190, 3072, 4032, 1023, 63, 0, 0, 655_350];
+
+fn raw_of(numbers: Numbers, depth: Depth) -> RawMode {
+    RawMode {
+        width: numbers[WIDTH],
+        height: numbers[HEIGHT],
+        htotal: numbers[HTOTAL],
+        vtotal: numbers[VTOTAL],
+        hstart: numbers[HSTART],
+        vstart: numbers[VSTART],
+        hsw: numbers[HSW],
+        vsw: numbers[VSW],
+        hsp: numbers[HSP] == 1,
+        vsp: numbers[VSP] == 1,
+        clock_khz: numbers[CLOCK],
+        depth,
+    }
+}
+
+/// The greatest mode with these of its numbers changed has a timing or none.
+fn has_timing(rt: &impl Abort, fields: &[(usize, u32)], depth: Depth, has: bool) {
+    let raw = raw_of(with(GREATEST, fields), depth);
+    let mode = Mode::read(&raw).expect(rt, "a legal mode");
     assert_eq!(rt; write_timing(&mode).is_some(), has, "{raw:?}");
 }
 
-const RAW: RawMode = RawMode {
-    width: 4095,
-    height: 4095,
-    htotal: 8190,
-    vtotal: 8190,
-    hsw: 1023,
-    hstart: 3072,
-    vsw: 63,
-    vstart: 4032,
-    hsp: false,
-    vsp: false,
-    clock_khz: 655_350,
-    depth: Depth::Eight,
-};
-
 #[test]
 fn a_mode_past_the_bits_has_no_timing(rt: HostRuntime) {
-    has_timing(&rt, &RAW, true);
-    has_timing(
-        &rt,
-        &RawMode {
-            clock_khz: 655_360,
-            ..RAW
-        },
-        false,
-    );
-    has_timing(
-        &rt,
-        &RawMode {
-            clock_khz: 655_345,
-            ..RAW
-        },
-        false,
-    );
-    has_timing(
-        &rt,
-        &RawMode {
-            clock_khz: 10,
-            ..RAW
-        },
-        true,
-    );
-    has_timing(
-        &rt,
-        &RawMode {
-            clock_khz: 9,
-            ..RAW
-        },
-        false,
-    );
-    has_timing(
-        &rt,
-        &RawMode {
-            depth: Depth::Six,
-            ..RAW
-        },
-        false,
-    );
-    has_timing(
-        &rt,
-        &RawMode {
-            depth: Depth::Ten,
-            ..RAW
-        },
-        false,
-    );
-    has_timing(
-        &rt,
-        &RawMode {
-            width: 4096,
-            htotal: 8191,
-            ..RAW
-        },
-        false,
-    );
-    has_timing(
-        &rt,
-        &RawMode {
-            htotal: 8191,
-            hstart: 3073,
-            ..RAW
-        },
-        false,
-    );
-    has_timing(
-        &rt,
-        &RawMode {
-            height: 4096,
-            vtotal: 8191,
-            ..RAW
-        },
-        false,
-    );
-    has_timing(
-        &rt,
-        &RawMode {
-            vtotal: 8191,
-            vstart: 4033,
-            ..RAW
-        },
-        false,
-    );
-    has_timing(
-        &rt,
-        &RawMode {
-            hstart: 3071,
-            ..RAW
-        },
-        false,
-    );
-    has_timing(&rt, &RawMode { hsw: 1024, ..RAW }, false);
-    has_timing(
-        &rt,
-        &RawMode {
-            vstart: 4031,
-            ..RAW
-        },
-        false,
-    );
-    has_timing(&rt, &RawMode { vsw: 64, ..RAW }, false);
+    let rows: [(&[(usize, u32)], bool); 13] = [
+        (&[], true),
+        (&[(CLOCK, 655_360)], false),
+        (&[(CLOCK, 655_345)], false),
+        (&[(CLOCK, 10)], true),
+        (&[(CLOCK, 9)], false),
+        (&[(WIDTH, 4096), (HTOTAL, 8191)], false),
+        (&[(HTOTAL, 8191), (HSTART, 3073)], false),
+        (&[(HEIGHT, 4096), (VTOTAL, 8191)], false),
+        (&[(VTOTAL, 8191), (VSTART, 4033)], false),
+        (&[(HSTART, 3071)], false),
+        (&[(HSW, 1024)], false),
+        (&[(VSTART, 4031)], false),
+        (&[(VSW, 64)], false),
+    ];
+    for (fields, has) in rows {
+        has_timing(&rt, fields, Depth::Eight, has);
+    }
+    for depth in [Depth::Six, Depth::Ten, Depth::Twelve, Depth::Sixteen] {
+        has_timing(&rt, &[], depth, false);
+    }
 }
