@@ -62,6 +62,11 @@ pub enum Command {
         pixels: Name,
         workers: Workers,
     },
+    /// Generate frames from a number, send them, receive them, and compare.
+    Gen {
+        seed: u32,
+        workers: Workers,
+    },
     /// Supervise the job's link through its events.
     Watch {
         job: Name,
