@@ -30,7 +30,7 @@ pub(crate) fn read_workers(rest: &[&str]) -> Option<Workers>
 const MOST_DIGITS: usize = 10;
 
 /// The number that a word gives: of 32 bits, in one to ten digits without a sign.
-pub(crate) fn read_seed(word: &str) -> Option<u32>
+pub(crate) fn named_seed(word: &str) -> Option<u32>
     ensures { result ≡ seed_named word.now }
 {
     if word.len() > MOST_DIGITS {

@@ -1,7 +1,7 @@
 ghost use Rattle.std.specs.Prelude.{map};
 ghost use Rattle.dpx_words.specs.Reading.{WordsRead, train_of, sending_of, send_of, run_of, recv_of, gen_of, command_of, only_of, watch_of};
 
-use crate::arguments::{read_seed, read_workers};
+use crate::arguments::{named_seed, read_workers};
 use crate::{Command, Name, WordsEnd};
 use dpx_base::Workers;
 use std::alloc::Global;
@@ -120,7 +120,7 @@ fn read_gen(rest: &[&str]) -> Result<Command, WordsEnd>
     if rest.is_empty() {
         return Err(WordsEnd::Usage);
     }
-    match (read_seed(rest[0]), read_workers(&rest[1..])) {
+    match (named_seed(rest[0]), read_workers(&rest[1..])) {
         (Some(seed), Some(workers)) => Ok(Command::Gen { seed, workers }),
         _ => Err(WordsEnd::Usage),
     }

@@ -1,8 +1,8 @@
-use Rattle.std.proofs.Common.{◌≡◌, ◌∙◌, arith, slice_index, sym}
+use Rattle.std.proofs.Common.{◌∙◌, arith, slice_index, sym}
 use Rattle.std.specs.Prelude.{◌≢◌}
 use Rattle.std.proofs.lemmas.Bool.{eq-eqb, eqb-true, true≢false}
 use Rattle.dpx_words.proofs.Seeds.{none_longer, none_signed, short_is_parsed}
-use Rattle.dpx_words.proofs.arguments.read_seed.Goals as goal
+use Rattle.dpx_words.proofs.arguments.named_seed.Goals as goal
 
 pub returns-then-word-gt-MOST_DIGITS : goal.returns-then-word-gt-MOST_DIGITS
 returns-then-word-gt-MOST_DIGITS c = none_longer c.args.word.now (omega (arith, c.if-word-gt-MOST_DIGITS.true))
