@@ -1,1 +1,2 @@
+mod Seeds
 mod WalkOfWords

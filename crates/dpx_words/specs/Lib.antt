@@ -1,2 +1,3 @@
 pub mod Dashes
 pub mod Reading
+pub mod Seed

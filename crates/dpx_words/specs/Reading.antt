@@ -7,8 +7,9 @@ use Rattle.std.specs.declared.alloc.Global.{Global}
 use Rattle.dpx_base.specs.declared.workers.Workers.{Workers}
 use Rattle.dpx_base.specs.declared.workers.Workers.TheVariants.{One, Lanes}
 use Rattle.dpx_words.specs.Dashes.{has_dash}
+use Rattle.dpx_words.specs.Seed.{seed_named}
 use Rattle.dpx_words.specs.declared.command.Command.{Command}
-use Rattle.dpx_words.specs.declared.command.Command.TheVariants.{Train, Send, Run, Recv, Edid, Watch}
+use Rattle.dpx_words.specs.declared.command.Command.TheVariants.{Train, Send, Run, Recv, Gen, Edid, Watch}
 use Rattle.dpx_words.specs.declared.command.WordsEnd.{WordsEnd}
 use Rattle.dpx_words.specs.declared.command.WordsEnd.TheVariants.{Usage, Memory}
 use Rattle.dpx_words.specs.declared.verbs.Sending.{Sending}
@@ -55,6 +56,14 @@ abbrev pub recv_of : List (List ℕ) → Option Command
 recv_of (capture ∷ pixels ∷ rest) = option_map (λ workers. Recv capture pixels workers) (workers_of rest)
 recv_of _ = None
 
+abbrev pub gen_with : Option ℕ → Option Workers → Option Command
+gen_with (Some seed) (Some workers) = Some (Gen seed workers)
+gen_with _ _ = None
+
+abbrev pub gen_of : List (List ℕ) → Option Command
+gen_of (seed ∷ rest) = gen_with (seed_named seed) (workers_of rest)
+gen_of _ = None
+
 -- the command of words of which none begins with a dash
 abbrev pub command_of : List (List ℕ) → Option Command
 command_of [] = None
@@ -63,6 +72,7 @@ command_of (verb ∷ rest) =
     else if bytes_eq verb (codes "send") then send_of rest
     else if bytes_eq verb (codes "run") then run_of rest
     else if bytes_eq verb (codes "recv") then recv_of rest
+    else if bytes_eq verb (codes "gen") then gen_of rest
     else if bytes_eq verb (codes "edid") then edid_of rest
     else if bytes_eq verb (codes "watch") then watch_of rest
     else None

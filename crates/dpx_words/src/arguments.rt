@@ -1,5 +1,6 @@
 ghost use Rattle.std.specs.Prelude.{◌≡◌, map};
 ghost use Rattle.dpx_words.specs.Reading.{workers_named, workers_of};
+ghost use Rattle.dpx_words.specs.Seed.{seed_named};
 
 use dpx_base::Workers;
 
@@ -24,4 +25,19 @@ pub(crate) fn read_workers(rest: &[&str]) -> Option<Workers>
         return None;
     }
     named_workers(rest[0])
+}
+
+const MOST_DIGITS: usize = 10;
+
+/// The number that a word gives: of 32 bits, in one to ten digits without a sign.
+pub(crate) fn named_seed(word: &str) -> Option<u32>
+    ensures { result ≡ seed_named word.now }
+{
+    if word.len() > MOST_DIGITS {
+        return None;
+    }
+    if word.starts_with('+') {
+        return None;
+    }
+    word.parse().ok()
 }

@@ -62,6 +62,11 @@ pub enum Command {
         pixels: Name,
         workers: Workers,
     },
+    /// Generate frames from a number, send them, receive them, and compare.
+    Gen {
+        seed: u32,
+        workers: Workers,
+    },
     /// Fetch the EDID of the job's sink.
     Edid {
         job: Name,

@@ -3,7 +3,7 @@
 //! * `command`: what the words can ask for
 //! * `reading`: the reading of the words
 //! * `verbs`: the words of each command
-//! * `arguments`: workers
+//! * `arguments`: workers, a number
 //! * `positional`: what `clap` makes of the words
 #![tactic(auto)]
 

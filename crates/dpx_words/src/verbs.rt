@@ -1,8 +1,8 @@
 ghost use Rattle.std.specs.Prelude.{map};
-ghost use Rattle.dpx_words.specs.Reading.{WordsRead, train_of, sending_of, send_of, run_of, recv_of, command_of, only_of};
-ghost use Rattle.dpx_words.specs.Reading.{edid_of, watch_of};
+ghost use Rattle.dpx_words.specs.Reading.{WordsRead, train_of, sending_of, send_of, run_of, recv_of, gen_of, command_of};
+ghost use Rattle.dpx_words.specs.Reading.{only_of, edid_of, watch_of};
 
-use crate::arguments::read_workers;
+use crate::arguments::{named_seed, read_workers};
 use crate::{Command, Name, WordsEnd};
 use dpx_base::Workers;
 use std::alloc::Global;
@@ -19,6 +19,7 @@ pub(crate) fn read_command(alloc: Global, words: &[&str]) -> Result<Command, Wor
         "send" => read_send(alloc, rest),
         "run" => read_run(alloc, rest),
         "recv" => read_recv(alloc, rest),
+        "gen" => read_gen(rest),
         "edid" => read_edid(alloc, rest),
         "watch" => read_watch(alloc, rest),
         _ => Err(WordsEnd::Usage),
@@ -120,4 +121,16 @@ fn read_recv(alloc: Global, rest: &[&str]) -> Result<Command, WordsEnd>
         pixels: Name::new(alloc, rest[1])?,
         workers,
     })
+}
+
+fn read_gen(rest: &[&str]) -> Result<Command, WordsEnd>
+    ensures { WordsRead (gen_of (map (λ word. word.now) rest.now)) result }
+{
+    if rest.is_empty() {
+        return Err(WordsEnd::Usage);
+    }
+    match (named_seed(rest[0]), read_workers(&rest[1..])) {
+        (Some(seed), Some(workers)) => Ok(Command::Gen { seed, workers }),
+        _ => Err(WordsEnd::Usage),
+    }
 }
