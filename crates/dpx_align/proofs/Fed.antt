@@ -47,9 +47,9 @@ none_of None h = refl
 none_of (Some bad) h = absurd (false≢true (sym h))
 
 own_fault : (states : List LaneRx) (words left : List (List ℕ)) → TeamRead states words left → (j : ℕ) (s : LaneRx)
-    → slice_get states j ≡ Some s → IsFault (words_of words j) s.fault
+    → slice_get states j ≡ Some s → IsFault (words_of words j) s.decoder.fault
 own_fault states words left h j s k =
-    fault_is s (words_of words j) (words_of left j) (read_of states words left h j s k)
+    fault_is s.decoder (words_of words j) (words_of left j) (read_of states words left h j s k)
 
 none_known : (bad : AlignBad) → Some bad ≡ None → ⊥
 none_known bad e = cc
@@ -135,7 +135,7 @@ fed_none a b words rows outs plain n count lanes bad none clocks all does many l
       within = omega arith;
       faults = λ lane s fault l k e.
           absurd (no_other (joined words rows) (lanes_count b.team.lanes) here lane (omega (arith, l, number, total))
-          s.fault (own_fault b.team.states (joined words rows) (joined left outs) after lane s k) fault e);
+          s.decoder.fault (own_fault b.team.states (joined words rows) (joined left outs) after lane s k) fault e);
     } in
     let symbols = symbols_on a.team.states b.team.states words left rows outs plain fed n (fed + n) went in
     let whole = cut_all (fed + n) (joined words rows)
@@ -197,7 +197,7 @@ fed_some a b words rows outs plain n next count lane fault lanes bad none clocks
       within = omega (arith, high);
       faults = λ j s other l k e.
           not_sooner (joined words rows) (lanes_count b.team.lanes) (lane, fault) here j
-          (omega (arith, l, number, total)) s.fault
+          (omega (arith, l, number, total)) s.decoder.fault
           (own_fault b.team.states (joined words rows) (joined left outs) after j s k) other e;
     } in
     let symbols = symbols_on a.team.states b.team.states words left rows outs plain fed n clock went in

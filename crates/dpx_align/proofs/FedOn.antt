@@ -35,7 +35,7 @@ pub record WentOn (old new : List LaneRx) (words left rows outs : List (List ℕ
   pub from : fed ≤ clock
   pub within : clock ≤ fed + next
   pub faults : (lane : ℕ) (s : LaneRx) (fault : LaneFault) → lane < length words → slice_get new lane ≡ Some s
-      → s.fault ≡ Some fault → clock ≤ fault.clock
+      → s.decoder.fault ≡ Some fault → clock ≤ fault.clock
 
 lane_symbols : (old new : List LaneRx) (words left rows outs : List (List ℕ)) (plain : List (List Sym))
     (fed next clock : ℕ)
@@ -48,8 +48,8 @@ lane_symbols old new words left rows outs plain fed next clock w j l =
     let ls = words_of left j in
     let out = words_of outs j in
     let a = read_at old words left w.before j l in
-    let o = is_reading a.0 ws ls a.2 in
-    let rest = all_read ws ls a.0.fault o (λ t b. w.none j t l b) in
+    let o = is_reading a.0.decoder ws ls a.2 in
+    let rest = all_read ws ls a.0.decoder.fault o (λ t b. w.none j t l b) in
     let size = length-joined words rows w.rows_size in
     let b = read_at new (joined words rows) (joined left outs) w.after j (omega (arith, size, l)) in
     let words_are = words_of-joined words rows j w.rows_size l in
@@ -57,11 +57,11 @@ lane_symbols old new words left rows outs plain fed next clock w j l =
     let read : HasRead b.0 (ws ++ row) (ls ++ out) =
     subst (λ (x : List ℕ). HasRead b.0 (ws ++ row) x) left_are
     (subst (λ (x : List ℕ). HasRead b.0 x (words_of (joined left outs) j)) words_are b.2) in
-    let n = is_reading b.0 (ws ++ row) (ls ++ out) read in
+    let n = is_reading b.0.decoder (ws ++ row) (ls ++ out) read in
     let long : clock ≤ length (ws ++ row) =
     omega (arith, length-append ws row, w.even j l, w.rows_even j (omega (arith, w.rows_size, l)), w.within) in
-    let good = good_until (ws ++ row) (ls ++ out) b.0.fault n clock long (λ fault e. w.faults j b.0 fault l b.1 e) in
-    let all = symbols_more ws row ls out (lane_of plain j) a.0.fault b.0.fault clock (w.symbols.each j l) o rest n
+    let good = good_until (ws ++ row) (ls ++ out) b.0.decoder.fault n clock long (λ fault e. w.faults j b.0 fault l b.1 e) in
+    let all = symbols_more ws row ls out (lane_of plain j) a.0.decoder.fault b.0.decoder.fault clock (w.symbols.each j l) o rest n
     (omega (arith, w.even j l, w.from)) good in
     subst (λ (k : ℕ). LaneSymbols (take clock (ws ++ row)) (lane_of plain j ++ map symbol_of (take (clock - k) out)))
     (w.even j l) all
