@@ -13,6 +13,8 @@ use std::thread::Threads;
 
 mod by_table;
 mod faults;
+mod gate;
+mod generating;
 mod histories;
 mod receive_faults;
 mod receiving;

@@ -1,5 +1,8 @@
 pub mod Commands
 pub mod Digits
+pub mod Gen
+pub mod GenLines
+pub mod Generating
 pub mod Jobs
 pub mod Lines
 pub mod Printing

@@ -1,11 +1,12 @@
-ghost use Rattle.std.specs.Prelude.{◌≡◌, ◌≢◌, ◌⊎◌, ◌+◌, ◌*◌, ◌≤◌, None, IsSome, IsSomeAnd};
+ghost use Rattle.std.specs.Prelude.{◌≡◌, ◌≢◌, ◌⊎◌, ℕ, ◌+◌, ◌*◌, ◌≤◌, None, IsSome, IsSomeAnd};
 ghost use Rattle.dpx_base.specs.Faults.{Rose};
 ghost use Rattle.dpx_files.specs.Events.{most_events};
 ghost use Rattle.dpx_link.specs.Training.{training_entries};
 ghost use Rattle.dpx_watch.specs.Step.{step_entries};
 ghost use Rattle.dpx_words.specs.Reading.{command_in};
 ghost use Rattle.dpx_cli.specs.declared.stop.Stop.{Stop};
-ghost use Rattle.dpx_cli.specs.Commands.{IsTrain, IsSend, IsRun, IsRecv, IsWatch};
+ghost use Rattle.dpx_cli.specs.Commands.{IsTrain, IsSend, IsRun, IsRecv, IsGen, IsWatch};
+ghost use Rattle.dpx_cli.specs.Gen.{GenDoes};
 ghost use Rattle.dpx_cli.specs.Printing.{StopsAtOnce};
 ghost use Rattle.dpx_cli.specs.Recv.{RecvDoes};
 ghost use Rattle.dpx_cli.specs.Run.{RunDoes};
@@ -16,6 +17,7 @@ ghost use Rattle.dpx_cli.specs.Watch.{WatchDoes};
 ghost use Rattle.dpx_cli.specs.Train.{SaysTrained, TrainDoes};
 ghost use Rattle.dpx_cli.specs.Transfer.{Prints, PrintsFirst};
 
+use crate::generate::generate;
 use crate::printing::print_stop;
 use crate::recv::recv;
 use crate::run::run;
@@ -103,6 +105,10 @@ pub fn replay<S: Source, T: Pipe, P: LoadPort, O: Sink, R: Threads + Sync>(
     ensures recv { IsSomeAnd (command_in words.now) IsRecv → RecvDoes (S.seen src.old ⇒ S.seen src.new)
         (O.seen pix.old ⇒ O.seen pix.new) (pix.new ≡ pix.old) (O.seen out.old ⇒ O.seen out.new) result }
     ensures recv_keeps { IsSomeAnd (command_in words.now) IsRecv → (pipe.new ≡ pipe.old) × (aux.new ≡ aux.old) }
+    ensures generate { (seed : ℕ) → IsSomeAnd (command_in words.now) (IsGen seed)
+        → GenDoes seed (O.seen pix.old ⇒ O.seen pix.new) (pix.new ≡ pix.old) (O.seen out.old ⇒ O.seen out.new) result }
+    ensures generate_keeps { (seed : ℕ) → IsSomeAnd (command_in words.now) (IsGen seed)
+        → (src.new ≡ src.old) × (pipe.new ≡ pipe.old) × (aux.new ≡ aux.old) }
     ensures watch { IsSomeAnd (command_in words.now) IsWatch → WatchDoes (S.seen src.old ⇒ S.seen src.new)
         (P.state aux.old ⇒ P.state aux.new) (aux.new ≡ aux.old) (O.seen out.old ⇒ O.seen out.new) result }
     ensures watch_keeps { IsSomeAnd (command_in words.now) IsWatch → (pipe.new ≡ pipe.old) × (pix.new ≡ pix.old) }
@@ -173,6 +179,10 @@ pub fn replay_gated<S: Source, T: Pipe, P: LoadPort, O: Sink, G: Gate, R: Thread
     ensures recv { IsSomeAnd (command_in words.now) IsRecv → RecvDoes (S.seen src.old ⇒ S.seen src.new)
         (O.seen pix.old ⇒ O.seen pix.new) (pix.new ≡ pix.old) (O.seen out.old ⇒ O.seen out.new) result }
     ensures recv_keeps { IsSomeAnd (command_in words.now) IsRecv → (pipe.new ≡ pipe.old) × (aux.new ≡ aux.old) }
+    ensures generate { (seed : ℕ) → IsSomeAnd (command_in words.now) (IsGen seed)
+        → GenDoes seed (O.seen pix.old ⇒ O.seen pix.new) (pix.new ≡ pix.old) (O.seen out.old ⇒ O.seen out.new) result }
+    ensures generate_keeps { (seed : ℕ) → IsSomeAnd (command_in words.now) (IsGen seed)
+        → (src.new ≡ src.old) × (pipe.new ≡ pipe.old) × (aux.new ≡ aux.old) }
     ensures watch { IsSomeAnd (command_in words.now) IsWatch → WatchDoes (S.seen src.old ⇒ S.seen src.new)
         (P.state aux.old ⇒ P.state aux.new) (aux.new ≡ aux.old) (O.seen out.old ⇒ O.seen out.new) result }
     ensures watch_keeps { IsSomeAnd (command_in words.now) IsWatch → (pipe.new ≡ pipe.old) × (pix.new ≡ pix.old) }
@@ -191,6 +201,7 @@ pub fn replay_gated<S: Source, T: Pipe, P: LoadPort, O: Sink, G: Gate, R: Thread
             run(rt, alloc, src, pipe, aux, pix, out, workers, gate)
         }
         Ok(Command::Recv { workers, .. }) => recv(rt, alloc, src, pix, out, workers, gate),
+        Ok(Command::Gen { seed, workers }) => generate(rt, alloc, seed, pix, out, workers, gate),
         Ok(Command::Watch { .. }) => watch(alloc, src, aux, out),
         Err(WordsEnd::Usage) => print_stop(alloc, out, &Stop::Usage),
         Err(WordsEnd::Memory) => print_stop(alloc, out, &Stop::NoMemory),
