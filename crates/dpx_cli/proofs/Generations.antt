@@ -1,5 +1,5 @@
 -- A number's frames, sent into memory and received from it.
-use Rattle.std.proofs.Common.{◌≡◌, ◌≢◌, ℕ, ◌+◌, ◌*◌, ◌^◌, ◌≤◌, ◌<◌, List, [], ◌∷◌, ◌++◌, length, take, refl, sym, ap, ◌∙◌, subst, arith}
+use Rattle.std.proofs.Common.{◌≡◌, ◌≢◌, ℕ, ◌+◌, ◌*◌, ◌^◌, ◌≤◌, ◌<◌, List, [], ◌∷◌, ◌++◌, length, length-drop, take, drop, ◌-◌, refl, sym, ap, ◌∙◌, subst, arith}
 use Rattle.std.proofs.Common.{Bool, true, false, leb, Option, Some, None, Result, Ok, Err, append_assoc}
 use Rattle.std.specs.Prelude.{⊤}
 use Rattle.std.specs.List.{AllByRecursion}
@@ -25,8 +25,10 @@ use Rattle.dpx_reception.specs.Reception.{Fault, no_fault, set_fault, word_fault
 use Rattle.dpx_sink.specs.declared.finish_end.FinishEnd.{FinishEnd}
 use Rattle.dpx_sink.specs.declared.finish_end.Received.{Received}
 use Rattle.dpx_sink.specs.declared.receiver.Receiver.{Receiver}
+use Rattle.dpx_sink.specs.declared.recv_end.RecvEnd.{RecvEnd}
+use Rattle.dpx_sink.specs.declared.recv_end.RecvEnd.TheVariants as recv
 use Rattle.dpx_sink.specs.Laws.{CaptureIsWritten, CapturesAreWritten, all_of}
-use Rattle.dpx_sink.specs.Receiver.{EndsAs, StandsFor, link_of}
+use Rattle.dpx_sink.specs.Receiver.{EndsAs, Feeds, StandsFor, link_of}
 use Rattle.dpx_sink.specs.Writes.{Sinks, Wrote, sinks}
 use Rattle.dpx_source.specs.Drive.{IsWhole, pixel_count}
 use Rattle.dpx_source.specs.Pixels.{bad_value, first_bad}
@@ -132,11 +134,17 @@ module _ (seed : ℕ) (bytes : List ℕ) (w : CaptureIsWritten (gen_plan seed) (
       w.never_refused bytes [] wrote.more_records wrote.more_text fault (sym (append-nil bytes))
       (subst (λ (l : Link). Due l bytes fault wrote.more_records wrote.more_text) over wrote.so)
 
-  pub no_word_fault : {before now : Sinks} (bad : AlignBad) → Wrote before now [] [] (Due link bytes (word_fault bad)) → ⊥
+  no_word_fault : {before now : Sinks} (bad : AlignBad) → Wrote before now [] [] (Due link bytes (word_fault bad)) → ⊥
   no_word_fault bad wrote = let e = not_refused (word_fault bad) wrote in absurd cc
 
-  pub no_set_fault : {before now : Sinks} (bad : ParseBad) → Wrote before now [] [] (Due link bytes (set_fault bad)) → ⊥
+  no_set_fault : {before now : Sinks} (bad : ParseBad) → Wrote before now [] [] (Due link bytes (set_fault bad)) → ⊥
   no_set_fault bad wrote = let e = not_refused (set_fault bad) wrote in absurd cc
+
+  pub only_write_faults : (r : Receiver) (before now : Sinks) (end : RecvEnd)
+      → Feeds r link before now bytes [] [] (Err end) → end ≡ recv.WriteFault
+  only_write_faults r before now (recv.Align bad) wrote = absurd (no_word_fault bad wrote)
+  only_write_faults r before now (recv.Parse bad) wrote = absurd (no_set_fault bad wrote)
+  only_write_faults r before now recv.WriteFault wrote = refl
 
   -- it writes all pixels
   pub pixels_written : (r : Receiver) {text now : SinkSeen} (sink after : SinkInMemory) → sink.taken ≡ []
@@ -147,13 +155,30 @@ module _ (seed : ℕ) (bytes : List ℕ) (w : CaptureIsWritten (gen_plan seed) (
       ∙ w.records r wrote.more_records wrote.more_text (of_link ∙ over) wrote.so
 
   -- and ends with all frames
-  pub all_received : (result : Result Received FinishEnd) → EndsAs link bytes result → result ≡ Ok (all_of (gen_plan seed))
+  all_received : (result : Result Received FinishEnd) → EndsAs link bytes result → result ≡ Ok (all_of (gen_plan seed))
   all_received result ends = w.end result (subst (λ (l : Link). EndsAs l bytes result) over ends)
+
+  pub received_is : (received : Received) → EndsAs link bytes (Ok received) → received ≡ all_of (gen_plan seed)
+  received_is received ends = let e = all_received (Ok received) ends in cc
+
+  pub not_unfinished : (end : FinishEnd) → EndsAs link bytes (Err end) → ⊥
+  not_unfinished end ends = let e = all_received (Err end) ends in absurd cc
+
+-- what is behind the header of a capture
+abbrev pub behind_header : List ℕ → List ℕ
+behind_header bytes = take (length bytes - 8) (drop 8 bytes)
+
+behind_is : (bytes behind : List ℕ) (link : Link) → bytes ≡ header_bytes link ++ behind → behind ≡ behind_header bytes
+behind_is bytes behind link headed =
+    let all : take (length (drop 8 bytes)) (drop 8 bytes) ≡ drop 8 bytes = take_all _ (drop 8 bytes) (omega arith) in
+    sym (ap (λ n. take n (drop 8 bytes)) (sym (length-drop 8 bytes)) ∙ (all ∙ ap (λ xs. drop 8 xs) headed))
 
 -- of what goes round the receiver writes all
 pub is_written : (seed : ℕ) → FramesFit → FramesAreWhole → PixelsAreInRange → CapturesAreWritten → (bytes : List ℕ)
-    → (round : GoesRound seed bytes) → CaptureIsWritten (gen_plan seed) (gen_pixels seed) round.behind
+    → GoesRound seed bytes → CaptureIsWritten (gen_plan seed) (gen_pixels seed) (behind_header bytes)
 is_written seed fit count in_range written bytes round =
-    written (gen_plan seed) (gen_pixels seed) round.behind (fit seed)
+    subst (λ (xs : List ℕ). CaptureIsWritten (gen_plan seed) (gen_pixels seed) xs)
+    (behind_is bytes round.behind (gen_link seed) round.headed)
+    (written (gen_plan seed) (gen_pixels seed) round.behind (fit seed)
     (record { count = count seed; in_range = in_range seed })
-    (subst (λ (xs : List ℕ). IsCapture (gen_plan seed) (gen_pixels seed) xs) round.headed round.capture)
+    (subst (λ (xs : List ℕ). IsCapture (gen_plan seed) (gen_pixels seed) xs) round.headed round.capture))

@@ -6,6 +6,7 @@ ghost use Rattle.dpx_cli.specs.Generating.{GoesRound, IsForMemory, equal_pixels,
 ghost use Rattle.dpx_files.specs.Generator.{gen_pixels, gen_plan};
 ghost use Rattle.dpx_reception.specs.Due.{pixel_records};
 ghost use Rattle.dpx_sink.specs.Laws.{all_of};
+ghost use Rattle.dpx_sink.specs.declared.recv_end.RecvEnd.{RecvEnd};
 
 use crate::gen_lines::pixel_count;
 use crate::sending::write_capture;
@@ -117,9 +118,18 @@ pub(crate) fn received_back<G: Gate, R: Threads + Sync>(
             Ok(received) => Ok((received, records)),
             Err(_) => unreachable!(),
         },
-        Err(RecvEnd::WriteFault) => Err(Stop::NoMemory),
-        Err(RecvEnd::Align(_)) => unreachable!(),
-        Err(RecvEnd::Parse(_)) => unreachable!(),
+        Err(end) => Err(want_of_room(end)),
+    }
+}
+
+/// Receiving into memory stops where what was taken is too little.
+fn want_of_room(end: RecvEnd) -> Stop
+    requires { end ≡ RecvEnd.WriteFault }
+    ensures { result ≡ Stop.NoMemory }
+{
+    match end {
+        RecvEnd::WriteFault => Stop::NoMemory,
+        _ => unreachable!(),
     }
 }
 

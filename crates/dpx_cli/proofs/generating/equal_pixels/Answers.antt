@@ -13,7 +13,7 @@ pub loop-number-preserved : goal.loop-number-preserved
 loop-number-preserved c =
     let more = counted_one_more (is_equal_at c.args.seed c.args.depth c.args.records.now) c.loop-number.number in
     elim c.if-is_equal_at.branch [
-        then-is_equal_at w ↦ omega (arith, more, w.equal-is, c.loop-number.invariant, ap one_if (sym c.is_equal_at.ensures ∙ w.if-is_equal_at.true))
+      | then-is_equal_at w ↦ omega (arith, more, w.equal-is, c.loop-number.invariant, ap one_if (sym c.is_equal_at.ensures ∙ w.if-is_equal_at.true))
       | else-is_equal_at w ↦ omega (arith, more, w.equal-is, c.loop-number.invariant, ap one_if (sym c.is_equal_at.ensures ∙ w.if-is_equal_at.false))
     ]
 
