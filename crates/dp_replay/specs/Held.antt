@@ -1,7 +1,7 @@
--- What contracts see of the program's own source and sink, which tell nothing of contents: this project's own.
+-- What contracts see of the program's own source, which tells nothing of contents: this project's own.
 use Rattle.std.specs.Prelude.{ℕ, Bool, true, false, Option, Some, None}
 
--- whether there is anything to read from or to write to, and how many calls failed
+-- whether there is anything to read from, and how many reads failed
 pub record Held : Type 0 where
   pub holds : Bool
   pub faults : ℕ

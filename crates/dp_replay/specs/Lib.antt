@@ -1,3 +1,4 @@
 pub mod FilePipe
 pub mod FilePipeFields
 pub mod Held
+pub mod HeldSink

@@ -1,4 +1,4 @@
-ghost use Rattle.std.specs.Prelude.{◌≡◌, ◌<◌, ◌≤◌, false, true, length, IfOk, IsErr};
+ghost use Rattle.std.specs.Prelude.{◌≡◌, ◌<◌, ◌≤◌, false, true, length, IfOk, IsErr, Ok};
 ghost use Rattle.dpx_base.specs.Faults.{HasCause};
 
 use dpx_base::{Failed, Sink};
@@ -13,9 +13,11 @@ use std::rt::Files;
 enum Target {
     File(File),
     Output(Stdout),
+    /// Every byte is taken, and none is kept.
+    Discard,
 }
 
-/// A sink over a file or standard output. It tells nothing of its contents.
+/// A sink over a file or standard output, or one that keeps nothing. It tells nothing of its contents.
 #[derive(Drop)]
 pub struct FileSink {
     target: Option<Target>,
@@ -23,11 +25,16 @@ pub struct FileSink {
 }
 
 impl Model for FileSink {
-    ghost use Rattle.dp_replay.specs.Held.{Held, is_there};
+    ghost use Rattle.dp_replay.specs.Held.{is_there};
+    ghost use Rattle.dp_replay.specs.HeldSink.{HeldSink, is_discard};
 
-    ghost Value = { Held };
+    ghost Value = { HeldSink };
 
-    ghost view = { λ s. record { holds = is_there s.target; faults = s.faults } };
+    ghost view = { λ s. record {
+      holds = is_there s.target;
+      discards = is_discard s.target;
+      faults = s.faults;
+    } };
 }
 
 impl FileSink {
@@ -42,7 +49,7 @@ impl FileSink {
     }
 
     pub fn output(output: Stdout) -> FileSink
-        ensures { result ≡ record { holds = true; faults = 0 } }
+        ensures { result ≡ record { holds = true; discards = false; faults = 0 } }
     {
         FileSink {
             target: Some(Target::Output(output)),
@@ -50,9 +57,19 @@ impl FileSink {
         }
     }
 
+    /// A sink that takes every byte and keeps none.
+    pub fn discard() -> FileSink
+        ensures { result ≡ record { holds = true; discards = true; faults = 0 } }
+    {
+        FileSink {
+            target: Some(Target::Discard),
+            faults: 0,
+        }
+    }
+
     /// A sink that holds nothing: each write to it fails.
     pub fn nothing() -> FileSink
-        ensures { result ≡ record { holds = false; faults = 0 } }
+        ensures { result ≡ record { holds = false; discards = false; faults = 0 } }
     {
         FileSink {
             target: None,
@@ -73,11 +90,13 @@ impl Sink for FileSink {
         ensures within { IfOk result (λ n. n ≤ length piece.now) }
         ensures cause { HasCause self.old.faults self.new.faults result }
         ensures nothing { self.old.holds ≡ false → IsErr result }
+        ensures discards { self.old.discards ≡ true → result ≡ Ok (length piece.now) }
         ensures held { self.new.holds ≡ self.old.holds }
     {
         let count = match &mut self.target {
             Some(Target::File(file)) => file.write(piece).unwrap_or(0),
             Some(Target::Output(output)) => output.write(piece).unwrap_or(0),
+            Some(Target::Discard) => piece.len(),
             None => 0,
         };
         if count == 0 {
@@ -128,5 +147,13 @@ mod tests {
         let _again = FileSink::create(&rt, "report");
         assert!(rt; fs::read_to_string(&rt, "report")?.is_empty());
         Ok(())
+    }
+
+    #[test]
+    fn a_sink_that_keeps_nothing_takes_every_byte(rt: HostRuntime) {
+        let mut out = FileSink::discard();
+        takes(&rt, &mut out, b"lane 0");
+        takes(&rt, &mut out, b" swing 1");
+        assert_eq!(rt; out.faults, 0);
     }
 }

@@ -47,6 +47,10 @@ impl CommandFiles {
                 pipe: FilePipe::new(FileSource::open(rt, pixels.as_str())),
                 pix: FileSink::create(rt, capture.as_str()),
             },
+            Command::Gen { .. } => CommandFiles {
+                pix: FileSink::discard(),
+                ..CommandFiles::none()
+            },
             Command::Recv {
                 capture,
                 pixels,

@@ -14,6 +14,8 @@ use std::thread::Threads;
 mod by_table;
 mod displays;
 mod faults;
+mod gate;
+mod generating;
 mod histories;
 mod receive_faults;
 mod receiving;

@@ -1,8 +1,13 @@
 pub mod Captures
+pub mod Counts
 pub mod Edids
+pub mod Equals
+pub mod Generations
+pub mod Gens
 pub mod Jobs
 pub mod LineSteps
 pub mod Modelled
+pub mod Numbers
 pub mod Printings
 pub mod Receivings
 pub mod Recvs

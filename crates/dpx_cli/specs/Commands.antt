@@ -1,7 +1,7 @@
 -- Which command the words ask for.
-use Rattle.std.specs.Prelude.{⊤}
+use Rattle.std.specs.Prelude.{◌≡◌, ℕ, ⊤}
 use Rattle.dpx_words.specs.declared.command.Command.{Command}
-use Rattle.dpx_words.specs.declared.command.Command.TheVariants.{Train, Send, Run, Recv, Edid, Watch}
+use Rattle.dpx_words.specs.declared.command.Command.TheVariants.{Train, Send, Run, Recv, Gen, Edid, Watch}
 
 abbrev pub IsTrain : Command → Type 0
 IsTrain (Train job) = ⊤
@@ -18,6 +18,11 @@ IsRun other = ⊥
 abbrev pub IsRecv : Command → Type 0
 IsRecv (Recv capture pixels workers) = ⊤
 IsRecv other = ⊥
+
+-- the frames of this number
+abbrev pub IsGen : (seed : ℕ) → Command → Type 0
+IsGen seed (Gen number workers) = number ≡ seed
+IsGen seed other = ⊥
 
 abbrev pub IsEdid : Command → Type 0
 IsEdid (Edid job) = ⊤

@@ -3,6 +3,9 @@ pub mod Digits
 pub mod Edid
 pub mod EdidLines
 pub mod Fetching
+pub mod Gen
+pub mod GenLines
+pub mod Generating
 pub mod Jobs
 pub mod Lines
 pub mod Printing

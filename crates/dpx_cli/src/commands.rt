@@ -1,12 +1,13 @@
-ghost use Rattle.std.specs.Prelude.{◌≡◌, ◌≢◌, ◌⊎◌, ◌+◌, ◌*◌, ◌≤◌, None, IsSome, IsSomeAnd};
+ghost use Rattle.std.specs.Prelude.{◌≡◌, ◌≢◌, ◌⊎◌, ℕ, ◌+◌, ◌*◌, ◌≤◌, None, IsSome, IsSomeAnd};
 ghost use Rattle.dpx_base.specs.Faults.{Rose};
 ghost use Rattle.dpx_files.specs.Events.{most_events};
 ghost use Rattle.dpx_link.specs.Training.{training_entries};
 ghost use Rattle.dpx_watch.specs.Step.{step_entries};
 ghost use Rattle.dpx_words.specs.Reading.{command_in};
 ghost use Rattle.dpx_cli.specs.declared.stop.Stop.{Stop};
-ghost use Rattle.dpx_cli.specs.Commands.{IsTrain, IsSend, IsRun, IsRecv, IsEdid, IsWatch};
+ghost use Rattle.dpx_cli.specs.Commands.{IsTrain, IsSend, IsRun, IsRecv, IsGen, IsEdid, IsWatch};
 ghost use Rattle.dpx_cli.specs.Edid.{EdidDoes};
+ghost use Rattle.dpx_cli.specs.Gen.{GenDoes};
 ghost use Rattle.dpx_cli.specs.Printing.{StopsAtOnce};
 ghost use Rattle.dpx_cli.specs.Recv.{RecvDoes};
 ghost use Rattle.dpx_cli.specs.Run.{RunDoes};
@@ -18,6 +19,7 @@ ghost use Rattle.dpx_cli.specs.Train.{SaysTrained, TrainDoes};
 ghost use Rattle.dpx_cli.specs.Transfer.{Prints, PrintsFirst};
 
 use crate::edid::edid;
+use crate::generate::generate;
 use crate::printing::print_stop;
 use crate::recv::recv;
 use crate::run::run;
@@ -106,6 +108,10 @@ pub fn replay<S: Source, T: Pipe, P: LoadPort, O: Sink, R: Threads + Sync>(
     ensures recv { IsSomeAnd (command_in words.now) IsRecv → RecvDoes (S.seen src.old ⇒ S.seen src.new)
         (O.seen pix.old ⇒ O.seen pix.new) (pix.new ≡ pix.old) (O.seen out.old ⇒ O.seen out.new) result }
     ensures recv_keeps { IsSomeAnd (command_in words.now) IsRecv → (pipe.new ≡ pipe.old) × (aux.new ≡ aux.old) }
+    ensures generate { (seed : ℕ) → IsSomeAnd (command_in words.now) (IsGen seed)
+        → GenDoes seed (O.seen pix.old ⇒ O.seen pix.new) (pix.new ≡ pix.old) (O.seen out.old ⇒ O.seen out.new) result }
+    ensures generate_keeps { (seed : ℕ) → IsSomeAnd (command_in words.now) (IsGen seed)
+        → (src.new ≡ src.old) × (pipe.new ≡ pipe.old) × (aux.new ≡ aux.old) }
     ensures edid { IsSomeAnd (command_in words.now) IsEdid → EdidDoes (S.seen src.old ⇒ S.seen src.new)
         (P.state aux.old ⇒ P.state aux.new) (aux.new ≡ aux.old) (O.seen out.old ⇒ O.seen out.new) result }
     ensures edid_keeps { IsSomeAnd (command_in words.now) IsEdid → (pipe.new ≡ pipe.old) × (pix.new ≡ pix.old) }
@@ -179,6 +185,10 @@ pub fn replay_gated<S: Source, T: Pipe, P: LoadPort, O: Sink, G: Gate, R: Thread
     ensures recv { IsSomeAnd (command_in words.now) IsRecv → RecvDoes (S.seen src.old ⇒ S.seen src.new)
         (O.seen pix.old ⇒ O.seen pix.new) (pix.new ≡ pix.old) (O.seen out.old ⇒ O.seen out.new) result }
     ensures recv_keeps { IsSomeAnd (command_in words.now) IsRecv → (pipe.new ≡ pipe.old) × (aux.new ≡ aux.old) }
+    ensures generate { (seed : ℕ) → IsSomeAnd (command_in words.now) (IsGen seed)
+        → GenDoes seed (O.seen pix.old ⇒ O.seen pix.new) (pix.new ≡ pix.old) (O.seen out.old ⇒ O.seen out.new) result }
+    ensures generate_keeps { (seed : ℕ) → IsSomeAnd (command_in words.now) (IsGen seed)
+        → (src.new ≡ src.old) × (pipe.new ≡ pipe.old) × (aux.new ≡ aux.old) }
     ensures edid { IsSomeAnd (command_in words.now) IsEdid → EdidDoes (S.seen src.old ⇒ S.seen src.new)
         (P.state aux.old ⇒ P.state aux.new) (aux.new ≡ aux.old) (O.seen out.old ⇒ O.seen out.new) result }
     ensures edid_keeps { IsSomeAnd (command_in words.now) IsEdid → (pipe.new ≡ pipe.old) × (pix.new ≡ pix.old) }
@@ -200,6 +210,7 @@ pub fn replay_gated<S: Source, T: Pipe, P: LoadPort, O: Sink, G: Gate, R: Thread
             run(rt, alloc, src, pipe, aux, pix, out, workers, gate)
         }
         Ok(Command::Recv { workers, .. }) => recv(rt, alloc, src, pix, out, workers, gate),
+        Ok(Command::Gen { seed, workers }) => generate(rt, alloc, seed, pix, out, workers, gate),
         Ok(Command::Edid { .. }) => edid(alloc, src, aux, out),
         Ok(Command::Watch { .. }) => watch(alloc, src, aux, out),
         Err(WordsEnd::Usage) => print_stop(alloc, out, &Stop::Usage),

@@ -1,5 +1,6 @@
 ghost use Rattle.std.specs.Prelude.{◌≡◌};
 ghost use Rattle.dpx_cli.specs.EdidLines.{edid_report};
+ghost use Rattle.dpx_cli.specs.GenLines.{gen_lines};
 ghost use Rattle.dpx_cli.specs.Lines.{train_report};
 ghost use Rattle.dpx_cli.specs.RecvLines.{received_line};
 ghost use Rattle.dpx_cli.specs.SendLines.{plan_line, sent_line};
@@ -7,6 +8,7 @@ ghost use Rattle.dpx_cli.specs.Printing.{StepPrints, EndsWith, Finishes, StopsAt
 ghost use Rattle.dpx_cli.specs.Step.{◌⇒◌};
 
 use crate::edid_lines::push_edid;
+use crate::gen_lines::push_generated;
 use crate::lines::push_train_end;
 use crate::recv_lines::push_received;
 use crate::report::Report;
@@ -61,6 +63,22 @@ pub(crate) fn print_received<O: Sink>(
 {
     let mut report = Report::new(alloc);
     push_received(&mut report, received)?;
+    print(out, &report)
+}
+
+/// Prints what came of a number's frames.
+pub(crate) fn print_generated<O: Sink>(
+    alloc: Global,
+    out: &mut O,
+    seed: u32,
+    plan: &Plan,
+    received: Received,
+    equal: u64,
+) -> Result<(), Stop>
+    ensures { StepPrints (O.seen out.old ⇒ O.seen out.new) (gen_lines seed plan.now received equal) result }
+{
+    let mut report = Report::new(alloc);
+    push_generated(&mut report, seed, plan, received, equal)?;
     print(out, &report)
 }
 

@@ -61,7 +61,7 @@ fn send_plan<T: Pipe, O: Sink, G: Gate, R: Threads + Sync>(
 }
 
 /// Begins the pipe, and writes the header and the words. All memory is taken before the pipe is begun.
-fn write_capture<T: Pipe, O: Sink, G: Gate, R: Threads + Sync>(
+pub(crate) fn write_capture<T: Pipe, O: Sink, G: Gate, R: Threads + Sync>(
     rt: &R,
     alloc: Global,
     plan: &Plan,

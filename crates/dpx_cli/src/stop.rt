@@ -7,6 +7,7 @@ use crate::recv_lines::{push_bad_set, push_bad_word, push_finish_end, push_heade
 use crate::report::Report;
 use crate::send_lines::{push_bad_pixel, push_pixels_ended, push_unfit};
 use dpx_align::AlignBad;
+use dpx_base::Memory;
 use dpx_edid::{EdidBad, FetchEnd};
 use dpx_files::{Field, JobBad};
 use dpx_link::TrainEnd;
@@ -77,6 +78,17 @@ impl From<AllocError> for Stop {
     ghost from_gives = { λ error stop. stop ≡ NoMemory };
 
     fn from(_error: AllocError) -> Stop {
+        Stop::NoMemory
+    }
+}
+
+impl From<Memory> for Stop {
+    ghost use Rattle.std.specs.Prelude.{◌≡◌};
+    ghost use Rattle.dpx_cli.specs.declared.stop.Stop.TheVariants.{NoMemory};
+
+    ghost from_gives = { λ memory stop. stop ≡ NoMemory };
+
+    fn from(_memory: Memory) -> Stop {
         Stop::NoMemory
     }
 }

@@ -1,14 +1,11 @@
-//! The command `send` over objects in memory: pixels and calls that fail, and the two lanes' threads.
+//! The command `send` over objects in memory: pixels and calls that fail.
 
 use super::sending::{
     CALM, Fails, PIXELS, Stage, TWO_FRAMES, TWO_LANES, ends, job, pixels, status,
 };
-use super::words;
-use dpx_base::{Gate, Pixel};
-use dpx_cli::replay_gated;
+use dpx_base::Pixel;
 use std::alloc::Global;
 use std::process::Abort;
-use std::sync::atomic::{AtomicU64, Ordering};
 use std::test::Fail;
 use std::thread::Threads;
 
@@ -156,60 +153,4 @@ fn a_write_of_the_capture_that_fails_ends_the_command(rt: HostRuntime) -> Result
         assert_eq!(rt; (status, bytes < 2812), (8, true));
     }
     Err("no run ended well".into())
-}
-
-/// Each of two lanes turns until it sees the other.
-#[derive(Drop)]
-struct Meeting {
-    here: [AtomicU64; 2],
-    seen: [AtomicU64; 2],
-}
-
-impl Gate for Meeting {
-    fn arrive(&self, lane: u8) {
-        let (mine, other) = if lane == 0 { (0, 1) } else { (1, 0) };
-        self.here[mine].store(1, Ordering::SeqCst);
-        for _ in 0..100_000_000u64 {
-            if self.here[other].load(Ordering::SeqCst) == 1 {
-                self.seen[mine].store(1, Ordering::SeqCst);
-                return;
-            }
-        }
-    }
-}
-
-#[test]
-fn two_lanes_of_send_meet_at_the_gate(rt: HostRuntime) -> Result<(), Fail> {
-    let gate = Meeting {
-        here: [AtomicU64::new(0), AtomicU64::new(0)],
-        seen: [AtomicU64::new(0), AtomicU64::new(0)],
-    };
-    assert_eq!(rt; sent_past(&rt, rt.alloc(), &gate)?, 0);
-    for lane in gate.seen {
-        assert_eq!(rt;
-            lane.load(Ordering::SeqCst),
-            1,
-            "a lane did not see the other"
-        );
-    }
-    Ok(())
-}
-
-/// The status of a run on the two frames past this gate.
-fn sent_past<R: Threads + Sync>(rt: &R, alloc: Global, gate: &impl Gate) -> Result<u8, Fail> {
-    let job = job(alloc, TWO_LANES, TWO_FRAMES, 8)?;
-    let mut stage = Stage::new(alloc, job.as_str(), pixels(alloc, PIXELS)?, CALM)?;
-    let words = words(alloc, "send a b c lanes")?;
-    let status = replay_gated(
-        rt,
-        alloc,
-        words.as_slice(),
-        &mut stage.src,
-        &mut stage.pipe,
-        &mut stage.port,
-        &mut stage.pix,
-        &mut stage.out,
-        gate,
-    );
-    Ok(status)
 }

@@ -11,7 +11,7 @@ use std::str;
 use std::test::Fail;
 use std::thread::Threads;
 
-const USAGE: &str = "usage: dp_replay train JOB | send JOB PIXELS CAPTURE [one|lanes] \
+pub(crate) const USAGE: &str = "usage: dp_replay train JOB | send JOB PIXELS CAPTURE [one|lanes] \
     | run JOB PIXELS CAPTURE [one|lanes] | recv CAPTURE PIXELS [one|lanes] | gen SEED [one|lanes] \
     | edid JOB | watch JOB\n";
 

@@ -1,5 +1,6 @@
 use Rattle.std.proofs.Common.{refl}
 use Rattle.dpx_cli.proofs.Edids.{fetches_are_reports}
+use Rattle.dpx_cli.proofs.Gens.{unread_words_gen}
 use Rattle.dpx_cli.proofs.Recvs.{CaptureLaws, unread_words_recv}
 use Rattle.dpx_cli.proofs.Runs.{unread_words_run}
 use Rattle.dpx_cli.proofs.Sends.{unread_words_send}
@@ -32,6 +33,9 @@ returns-clause-recv g c asked =
       written = c.a_capture_is_received.ensures;
     } in
     unread_words_recv laws _ _ _ (λ kept. refl) _ _ refl refl c.print_stop-in-Err-Memory.ensures
+
+pub returns-clause-generate : goal.returns-clause-generate
+returns-clause-generate g c seed asked = unread_words_gen seed _ _ _ _ refl c.print_stop-in-Err-Memory.ensures
 
 pub returns-clause-edid : goal.returns-clause-edid
 returns-clause-edid g c asked =
