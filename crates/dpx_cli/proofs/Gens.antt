@@ -1,19 +1,45 @@
 -- The command `gen`, from its steps to its contract.
-use Rattle.std.proofs.Common.{◌≡◌, ◌⊎◌, ℕ, List, [], ◌++◌, refl, sym, ap, ◌∙◌, subst, arith, inl, inr, Result, Ok, Err}
-use Rattle.std.specs.Prelude.{⊤}
+use Rattle.std.proofs.Common.{◌≡◌, ◌⊎◌, ℕ, List, [], ◌++◌, refl, sym, ap, ◌∙◌, subst, arith, inl, inr, Result, Ok, Err, Bool, true, false}
+use Rattle.std.specs.Prelude.{⊤, is_err, OnErr, OnOk}
 use Rattle.std.proofs.lemmas.List.{append-nil}
+use Rattle.dpx_base.specs.declared.depth.Depth.{Depth}
 use Rattle.dpx_base.specs.Faults.{Rose}
+use Rattle.dpx_base.specs.Plan.{PlanFacts}
 use Rattle.dpx_base.specs.Seen.{SinkSeen}
 use Rattle.dpx_base.specs.Transfer.{AppendsFront}
+use Rattle.dpx_files.specs.Generator.{gen_count, gen_pixels, gen_plan}
+use Rattle.dpx_reception.specs.Due.{pixel_records}
+use Rattle.dpx_sink.specs.declared.finish_end.Received.{Received}
+use Rattle.dpx_sink.specs.Laws.{all_of}
 use Rattle.dpx_cli.specs.declared.stop.Stop.{Stop}
 use Rattle.dpx_cli.specs.declared.stop.Stop.TheVariants as stop
 use Rattle.dpx_cli.specs.Gen.{GenCauses, GenDoes, IsGenStatus, TakesCapture, TakesCaptureFront, gen_report}
-use Rattle.dpx_cli.specs.Generating.{GoesRound}
+use Rattle.dpx_cli.specs.Generating.{GoesRound, equal_pixels}
+use Rattle.dpx_cli.specs.GenLines.{gen_lines}
 use Rattle.dpx_cli.specs.Printing.{CommandPrints, StepPrints, StepsDo, StopsAtOnce}
 use Rattle.dpx_cli.specs.Status.{IsClean}
 use Rattle.dpx_cli.specs.Step.{Step, ◌⇒◌}
 use Rattle.dpx_cli.specs.Transfer.{Prints, PrintsFront}
+use Rattle.dpx_cli.proofs.Equals.{all_come_back}
 use Rattle.dpx_cli.proofs.Printings.{end_status, end_text, ended_at_8, ended_calm, ended_status, ended_with, prints_nothing}
+
+-- a result that is an error, or none
+pub on_err : {T E P : Type 0} (result : Result T E) → is_err result ≡ true → OnErr result P → P
+on_err (Ok x) e p = absurd cc
+on_err (Err x) e p = p
+
+pub on_ok : {T E P : Type 0} (result : Result T E) → is_err result ≡ false → OnOk result P → P
+on_ok (Ok x) e p = p
+on_ok (Err x) e p = absurd cc
+
+-- the report of what came back
+pub report_is : (seed : ℕ) (plan : PlanFacts) (received : Received) (depth : Depth) (records : List ℕ) (equal : ℕ)
+    → plan ≡ gen_plan seed → received ≡ all_of (gen_plan seed) → depth ≡ plan.mode.depth
+    → records ≡ pixel_records (gen_pixels seed) → equal ≡ equal_pixels seed depth records
+    → gen_lines seed plan received equal ≡ gen_report seed
+report_is seed plan received depth records equal plan_is received_is depth_is records_is equal_is =
+    let count : equal ≡ gen_count seed = equal_is ∙ rw (records_is, depth_is, plan_is) (all_come_back seed) in
+    rw (plan_is, received_is, count) refl
 
 module _ (seed : ℕ) (pix : Step SinkSeen) (PixKept : Type 0) where
   -- what was taken whole was taken in part
