@@ -81,7 +81,12 @@ fn a_number_gives_the_capture_that_its_pixels_give(rt: HostRuntime) -> Result<()
     assert_eq!(rt; generated.as_slice(), sent.as_slice());
     let heard = hear(&rt, rt.alloc(), "recv a b", generated.as_slice(), CLEAR)?;
     assert_eq!(rt; heard.records.len(), 384);
-    assert!(rt; heard.records.as_slice().starts_with(&[0, 155, 0, 0, 0, 100]));
+    assert!(rt;
+        heard
+            .records
+            .as_slice()
+            .starts_with(&[0, 155, 0, 0, 0, 100])
+    );
     Ok(())
 }
 
