@@ -118,3 +118,7 @@ stands_first top judge turn of_top stands first none = record {
   remains = subst (λ (step : Step). Same (TrainOutcome top) (Rest top step turn.in_vain)) (sym first)
       (subst (λ (n : ℕ). Same (TrainOutcome top) (Rest top BaseBlock n)) (sym none) (starts_left top));
 }
+
+pub stands_short : (top : Link) (entries : List Entry) (judge : Judge) → StandsFor top entries judge
+    → IsShort top entries
+stands_short top entries judge s = short_of top entries s.turn.step s.turn.in_vain s.turn.few s.remains

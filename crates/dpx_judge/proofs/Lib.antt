@@ -8,3 +8,4 @@ pub mod Steps
 pub mod Takings
 pub mod Judgings
 pub mod Transcripts
+pub mod Verdicts
