@@ -1,5 +1,5 @@
 -- The attempts along the fallback order: how many are left changes nothing, while there are enough.
-use Rattle.std.proofs.Common.{◌≡◌, ℕ, zero, suc, ◌+◌, ◌<◌, ◌≤◌, List, arith, Option, Some, None, Result, Ok, Err}
+use Rattle.std.proofs.Common.{ℕ, zero, suc, ◌<◌, List, arith, Option, Some, None}
 use Rattle.dpx_base.specs.declared.aux_port.Entry.{Entry}
 use Rattle.dpx_base.specs.declared.link.Link.{Link}
 use Rattle.dpx_aux.specs.Conversation.{◌>>=◌}

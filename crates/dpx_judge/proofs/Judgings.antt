@@ -1,6 +1,6 @@
 -- What a judge says of the entries that it has taken.
-use Rattle.std.proofs.Common.{◌≡◌, ℕ, ◌+◌, ◌<◌, ◌≤◌, List, [], ◌∷◌, ◌++◌, length, take, refl, sym, ap, ◌∙◌, subst, arith}
-use Rattle.std.proofs.Common.{append_assoc, Option, Some, None}
+use Rattle.std.proofs.Common.{◌≡◌, ℕ, ◌<◌, List, [], ◌∷◌, ◌++◌, refl, sym, ◌∙◌, subst}
+use Rattle.std.proofs.Common.{append_assoc, Some}
 use Rattle.std.proofs.lemmas.List.{append-nil}
 use Rattle.dpx_base.specs.declared.aux_port.Entry.{Entry}
 use Rattle.dpx_base.specs.declared.link.Link.{Link}
@@ -12,12 +12,10 @@ use Rattle.dpx_judge.specs.declared.judge.Judge.{Judge}
 use Rattle.dpx_judge.specs.declared.step.Step.{Step}
 use Rattle.dpx_judge.specs.declared.step.Step.TheVariants.{BaseBlock}
 use Rattle.dpx_judge.specs.declared.turn.Turn.{Turn}
-use Rattle.dpx_judge.specs.declared.verdict.Ending.{Ending}
-use Rattle.dpx_judge.specs.Judge.{GoesOn, HasDiffered, HasEnded, StandsFor}
+use Rattle.dpx_judge.specs.Judge.{GoesOn, StandsFor}
 use Rattle.dpx_judge.specs.Remainder.{Left, Rest, Same}
 use Rattle.dpx_judge.specs.Transcript.{IsFront, IsShort, IsWhole, ending_at}
 use Rattle.dpx_judge.proofs.Live.{rest_lives, rest_some}
-use Rattle.dpx_judge.proofs.Same.{same_through}
 use Rattle.dpx_judge.proofs.Steps.{starts_left}
 use Rattle.dpx_judge.proofs.Transcripts.{whole_of}
 

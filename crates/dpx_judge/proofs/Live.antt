@@ -1,6 +1,6 @@
 -- What is left of a training has a history, whatever came before: the sink may stay silent. And it is not over.
-use Rattle.std.proofs.Common.{◌≡◌, ℕ, zero, suc, ◌+◌, ◌-◌, ◌<◌, List, [], ◌∷◌, ◌++◌, length, replicate, refl, sym, ap, ◌∙◌}
-use Rattle.std.proofs.Common.{arith, Result, Ok, Err}
+use Rattle.std.proofs.Common.{◌≡◌, ℕ, zero, suc, ◌-◌, ◌<◌, List, [], ◌∷◌, ◌++◌, length, replicate, refl, sym}
+use Rattle.std.proofs.Common.{arith, Result, Err}
 use Rattle.std.proofs.lemmas.List.{append-nil, length-replicate}
 use Rattle.std.specs.List.{AllByRecursion}
 use Rattle.dpx_base.specs.declared.aux_port.Answer.{Answer}
@@ -22,7 +22,6 @@ use Rattle.dpx_dpcd.specs.declared.status.Status6.{Status6}
 use Rattle.dpx_link.specs.Inner.{TrainingGives}
 use Rattle.dpx_judge.specs.declared.awaited.Awaited.{Awaited}
 use Rattle.dpx_judge.specs.declared.awaited.Awaited.TheVariants.{Ask, Wait}
-use Rattle.dpx_judge.specs.declared.step.Act.{Act}
 use Rattle.dpx_judge.specs.declared.step.Act.TheVariants as act
 use Rattle.dpx_judge.specs.declared.step.Step.{Step}
 use Rattle.dpx_judge.specs.declared.step.Step.TheVariants.{BaseBlock, ExtendedField, Power, Configuration, Coding}

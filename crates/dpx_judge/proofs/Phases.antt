@@ -1,5 +1,5 @@
 -- The two phases of an attempt, as one part behind the other.
-use Rattle.std.proofs.Common.{◌≡◌, ℕ, List, [], ◌∷◌, ◌++◌, refl, sym, ap, ◌∙◌, subst, Result, Ok, Err, MatchResult}
+use Rattle.std.proofs.Common.{◌≡◌, List, [], ◌++◌, refl, sym, ap, ◌∙◌, subst, Result, Ok, Err, MatchResult}
 use Rattle.std.proofs.lemmas.List.{append-nil}
 use Rattle.dpx_base.specs.declared.aux_port.Entry.{Entry}
 use Rattle.dpx_base.specs.declared.link.Link.{Link}
@@ -10,7 +10,6 @@ use Rattle.dpx_dpcd.specs.declared.pattern.Pattern.TheVariants.{Tps1}
 use Rattle.dpx_dpcd.specs.declared.status.Drive.{Drive}
 use Rattle.dpx_dpcd.specs.Caps.{caps_pattern}
 use Rattle.dpx_phase.specs.declared.phase_end.PhaseEnd.{PhaseEnd}
-use Rattle.dpx_phase.specs.declared.phase_end.PhaseEnd.TheVariants.{Aux}
 use Rattle.dpx_phase.specs.Drives.{no_drive}
 use Rattle.dpx_phase.specs.Equalisation.{Equalisation, equalisation, pause_of}
 use Rattle.dpx_phase.specs.Phase.{Runs, as_end}

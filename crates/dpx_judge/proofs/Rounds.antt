@@ -1,5 +1,5 @@
 -- A phase, round by round: what its statuses lead to is all that the rest of it depends on.
-use Rattle.std.proofs.Common.{◌≡◌, ℕ, zero, suc, ◌+◌, ◌-◌, ◌<◌, ◌≤◌, nat_le, List, [], ◌∷◌, ◌++◌, length, refl, sym, ap, ◌∙◌}
+use Rattle.std.proofs.Common.{◌≡◌, ℕ, zero, suc, ◌+◌, ◌-◌, ◌<◌, ◌≤◌, List, [], ◌∷◌, ◌++◌, length, refl, sym, ap, ◌∙◌}
 use Rattle.std.proofs.Common.{subst, arith, append_assoc, length-append, ◌⊎◌, inl, inr, Option, Some, None, Result, Ok, Err}
 use Rattle.std.proofs.Common.{MatchResult}
 use Rattle.std.specs.Prelude.{⊤}
@@ -15,7 +15,7 @@ use Rattle.dpx_dpcd.specs.Status.{status_level}
 use Rattle.dpx_phase.specs.declared.phase_end.PhaseEnd.{PhaseEnd}
 use Rattle.dpx_phase.specs.declared.recovery.Level.{Level}
 use Rattle.dpx_phase.specs.Drives.{no_drive, drive_after}
-use Rattle.dpx_phase.specs.Endings.{EndsNothing, alike_after, recovery_ends, equalisation_ends}
+use Rattle.dpx_phase.specs.Endings.{EndsNothing, alike_after}
 use Rattle.dpx_phase.specs.Equalisation.{equalisation}
 use Rattle.dpx_phase.specs.Phase.{Phase, ReadsLater, Adjusts, Round, Rounds, Concludes, LastRound, Follows}
 use Rattle.dpx_phase.specs.Recovery.{recovery}

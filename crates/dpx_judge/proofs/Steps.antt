@@ -1,5 +1,5 @@
 -- What is left behind a step is what is left where the training stands then.
-use Rattle.std.proofs.Common.{◌≡◌, ℕ, suc, ◌+◌, ◌-◌, ◌≤◌, Bool, true, false, nat_le, if◌then◌else◌, List, [], ◌∷◌, refl, ap}
+use Rattle.std.proofs.Common.{◌≡◌, ℕ, suc, ◌+◌, ◌-◌, ◌≤◌, Bool, true, false, nat_le, if◌then◌else◌, List, [], ◌∷◌, refl}
 use Rattle.std.proofs.Common.{subst, sym, arith, Option, Some, None, Result, Ok, Err}
 use Rattle.std.specs.Prelude.{⊤}
 use Rattle.dpx_base.specs.declared.aux_port.Entry.{Entry}
@@ -15,7 +15,7 @@ use Rattle.dpx_dpcd.specs.declared.pattern.Pattern.{Pattern}
 use Rattle.dpx_dpcd.specs.declared.pattern.Pattern.TheVariants.{Tps1}
 use Rattle.dpx_dpcd.specs.declared.status.Drive.{Drive}
 use Rattle.dpx_dpcd.specs.declared.status.Status6.{Status6}
-use Rattle.dpx_dpcd.specs.Caps.{has_extended, caps_read, caps_start, caps_pattern}
+use Rattle.dpx_dpcd.specs.Caps.{has_extended, caps_read, caps_start}
 use Rattle.dpx_dpcd.specs.Pattern.{pattern_register}
 use Rattle.dpx_dpcd.specs.RegisterMap.{dpcd_rev, dp13_dpcd_rev, lane0_1_status, training_pattern_set}
 use Rattle.dpx_dpcd.specs.Registers.{ReadsBlock, ReadsStatus, Writes}
@@ -24,7 +24,7 @@ use Rattle.dpx_phase.specs.declared.phase_end.PhaseEnd.TheVariants.{Done, Failed
 use Rattle.dpx_phase.specs.declared.recovery.Level.{Level}
 use Rattle.dpx_phase.specs.Drives.{no_drive, used}
 use Rattle.dpx_phase.specs.Endings.{recovery_end, equalisation_end}
-use Rattle.dpx_phase.specs.Equalisation.{equalisation, pause_of}
+use Rattle.dpx_phase.specs.Equalisation.{pause_of}
 use Rattle.dpx_phase.specs.Phase.{Phase, Follows, ReadsLater, Runs}
 use Rattle.dpx_phase.specs.Recovery.{recovery}
 use Rattle.dpx_link.specs.declared.attempt.AttemptEnd.{AttemptEnd}
@@ -33,7 +33,7 @@ use Rattle.dpx_link.specs.declared.fallback.Next.{Next}
 use Rattle.dpx_link.specs.declared.fallback.Next.TheVariants as next
 use Rattle.dpx_link.specs.Attempt.{AfterRecovery, Attempt, Configures, PhasesInTurn, equalised}
 use Rattle.dpx_link.specs.Fallback.{next_of}
-use Rattle.dpx_link.specs.Inner.{AttemptGives, TrainingGives}
+use Rattle.dpx_link.specs.Inner.{AttemptGives}
 use Rattle.dpx_link.specs.Training.{AfterAttempt, Attempts, Capabilities, Capable, TrainOutcome, TrainsWith, attempts_at_most}
 use Rattle.dpx_judge.specs.declared.awaited.Awaited.TheVariants.{Ask}
 use Rattle.dpx_judge.specs.declared.awaited.Awaited.TheVariants as awaited
@@ -44,14 +44,13 @@ use Rattle.dpx_judge.specs.declared.step.Attempt.{Attempt as Tried}
 use Rattle.dpx_judge.specs.declared.step.Step.{Step}
 use Rattle.dpx_judge.specs.declared.step.Step.TheVariants.{BaseBlock, ExtendedField, Power, Configuration, Coding}
 use Rattle.dpx_judge.specs.declared.step.Step.TheVariants.{Recovery, Equalisation, Close}
-use Rattle.dpx_judge.specs.Machine.{IsSound, attempted, behind_attempt, behind_base_block, behind_equalisation}
+use Rattle.dpx_judge.specs.Machine.{IsSound, attempted, behind_attempt, behind_equalisation}
 use Rattle.dpx_judge.specs.Machine.{behind_equalisation_status, behind_recovery, behind_recovery_status, capable, led_to}
 use Rattle.dpx_judge.specs.Machine.{equalisation_found, first_level, next_drive, next_level, recovered, recovery_found}
 use Rattle.dpx_judge.specs.Machine.{what_follows}
 use Rattle.dpx_judge.specs.Remainder.{After, AfterStatus, Awaits, BehindEqualisation, BehindRecovery, Closes}
 use Rattle.dpx_judge.specs.Remainder.{EqualisationGoesOn, EqualisationTurn, EqualisesOn, Leads, LeftBehind, Onward}
-use Rattle.dpx_judge.specs.Remainder.{RecoversOn, RecoveryGoesOn, RecoveryTurn, Rest, Same, equalisation_ending}
-use Rattle.dpx_judge.specs.Remainder.{recovery_ending}
+use Rattle.dpx_judge.specs.Remainder.{RecoversOn, RecoveryGoesOn, RecoveryTurn, Rest, Same}
 use Rattle.dpx_judge.proofs.Attempts.{attempt_first}
 use Rattle.dpx_judge.proofs.Hearing.{asks_anew}
 use Rattle.dpx_judge.proofs.Phases.{equalises_as, phases_same}

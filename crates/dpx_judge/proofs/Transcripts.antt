@@ -1,6 +1,6 @@
 -- Fronts and whole histories of trainings.
-use Rattle.std.proofs.Common.{◌≡◌, ℕ, ◌+◌, ◌<◌, ◌≤◌, ◌⊎◌, inl, inr, List, [], ◌∷◌, ◌++◌, length, take, drop, refl, sym, ap}
-use Rattle.std.proofs.Common.{◌∙◌, subst, arith, append_assoc, Result, Ok, Err}
+use Rattle.std.proofs.Common.{◌≡◌, ℕ, ◌+◌, ◌<◌, ◌≤◌, ◌⊎◌, inl, inr, List, [], ◌++◌, take, drop, refl, sym, ap}
+use Rattle.std.proofs.Common.{◌∙◌, subst, arith, append_assoc, Ok, Err}
 use Rattle.std.proofs.lemmas.Bool.{cases_lt}
 use Rattle.std.proofs.lemmas.List.{append-nil, append_cancel_left, take-append-drop}
 use Rattle.dpx_base.specs.declared.aux_port.Entry.{Entry}
@@ -64,8 +64,7 @@ pub ends_once : (top : Link) (a b : Ending) (front back : List Entry) → IsWhol
     → IsWhole top b (front ++ back) → (back ≡ []) × (a ≡ b)
 ends_once top a b front back v w =
     let answers = sym (answers_in-append front back) ∙ sym (append-nil (answers_in (front ++ back))) in
-    let same = training_decided top v.end w.end front (front ++ back) (answers_in back) [] v.training w.training answers in
-    (
+    let same = training_decided top v.end w.end front (front ++ back) (answers_in back) [] v.training w.training answers in (
       append_cancel_left front back [] (sym same.0 ∙ sym (append-nil front)),
       v.ends ∙ ap ending_of same.1 ∙ sym w.ends,
     )

@@ -1,5 +1,5 @@
 -- The verdict on a list, entry by entry.
-use Rattle.std.proofs.Common.{◌≡◌, ℕ, ◌+◌, ◌<◌, ◌≤◌, List, [], ◌∷◌, ◌++◌, length, take, get_or, refl, sym, ap, ◌∙◌, subst}
+use Rattle.std.proofs.Common.{◌≡◌, ℕ, ◌+◌, ◌<◌, ◌≤◌, List, [], ◌∷◌, ◌++◌, length, take, get_or, sym, ap, ◌∙◌, subst}
 use Rattle.std.proofs.Common.{append_assoc}
 use Rattle.std.proofs.lemmas.List.{take_all, take_more, take-take}
 use Rattle.dpx_base.specs.declared.aux_port.Entry.{Entry}
@@ -10,7 +10,7 @@ use Rattle.dpx_judge.specs.declared.judge.JudgeStep.TheVariants as step
 use Rattle.dpx_judge.specs.declared.verdict.Ending.{Ending}
 use Rattle.dpx_judge.specs.declared.verdict.Verdict.{Verdict}
 use Rattle.dpx_judge.specs.declared.verdict.Verdict.TheVariants.{Differs, Short, Yes}
-use Rattle.dpx_judge.specs.Judge.{GoesOn, HasDiffered, IsJudged, IsJudgedSoFar, IsOver, StandsFor}
+use Rattle.dpx_judge.specs.Judge.{GoesOn, IsJudged, IsJudgedSoFar, IsOver, StandsFor}
 use Rattle.dpx_judge.specs.Transcript.{DiffersAt, IsFront, IsVerdict, IsWhole}
 use Rattle.dpx_judge.proofs.Judgings.{stands_short}
 use Rattle.dpx_judge.proofs.Transcripts.{ends_once, front_take, whole_front}

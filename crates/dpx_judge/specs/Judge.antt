@@ -1,5 +1,5 @@
 -- What a judge stands for, and what it answers.
-use Rattle.std.specs.Prelude.{◌≡◌, List, ◌++◌, Option, Some, None}
+use Rattle.std.specs.Prelude.{◌≡◌, List, ◌++◌, Some, None}
 use Rattle.dpx_base.specs.declared.aux_port.Entry.{Entry}
 use Rattle.dpx_base.specs.declared.link.Link.{Link}
 use Rattle.dpx_link.specs.Training.{TrainOutcome}

@@ -1,6 +1,6 @@
 -- Where a training stands, what it does next, and what follows: this project's own. What is left of a training there
 -- is the definition's, in Remainder.
-use Rattle.std.specs.Prelude.{◌≡◌, ℕ, ◌+◌, ◌≤◌, Bool, nat_le, if◌then◌else◌, List, [], ◌∷◌, Option, Some, None, Result}
+use Rattle.std.specs.Prelude.{ℕ, ◌+◌, ◌≤◌, nat_le, if◌then◌else◌, List, [], ◌∷◌, Option, Some, None, Result}
 use Rattle.std.specs.Prelude.{Ok, Err, ⊤}
 use Rattle.dpx_base.specs.declared.lanes.Lanes.{Lanes}
 use Rattle.dpx_base.specs.declared.link.Link.{Link}
@@ -29,7 +29,6 @@ use Rattle.dpx_link.specs.declared.attempt.AttemptEnd.{AttemptEnd}
 use Rattle.dpx_link.specs.declared.attempt.AttemptEnd.TheVariants.{Unrecovered}
 use Rattle.dpx_link.specs.declared.fallback.Next.{Next}
 use Rattle.dpx_link.specs.declared.fallback.Next.TheVariants as next
-use Rattle.dpx_link.specs.declared.train_end.Verdict.{Verdict}
 use Rattle.dpx_link.specs.declared.train_end.Verdict.TheVariants.{CapsRefused}
 use Rattle.dpx_link.specs.Attempt.{equalised, lanes_byte}
 use Rattle.dpx_link.specs.Fallback.{next_of}

@@ -39,7 +39,13 @@ pub(crate) fn awaits(step: &Step) -> Awaited
             act,
             level,
             ..
-        } => phase_awaits(*act, attempt.link.lanes, Pattern::Tps1, level.drive, RECOVERY_PAUSE),
+        } => phase_awaits(
+            *act,
+            attempt.link.lanes,
+            Pattern::Tps1,
+            level.drive,
+            RECOVERY_PAUSE,
+        ),
         Step::Equalisation {
             attempt,
             act,
@@ -47,7 +53,13 @@ pub(crate) fn awaits(step: &Step) -> Awaited
             ..
         } => {
             let pause = pause_of(attempt.caps.interval);
-            phase_awaits(*act, attempt.link.lanes, attempt.caps.pattern(), *drive, pause)
+            phase_awaits(
+                *act,
+                attempt.link.lanes,
+                attempt.caps.pattern(),
+                *drive,
+                pause,
+            )
         }
         Step::Close(_) => write(TRAINING_PATTERN_SET, &[0x00]),
     }

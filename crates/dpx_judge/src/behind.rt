@@ -142,7 +142,13 @@ fn recovered(attempt: &Attempt, end: PhaseEnd) -> Behind
     }
 }
 
-fn behind_equalisation(attempt: &Attempt, act: Act, drive: Drive, number: u8, bytes: &[u8]) -> Behind
+fn behind_equalisation(
+    attempt: &Attempt,
+    act: Act,
+    drive: Drive,
+    number: u8,
+    bytes: &[u8],
+) -> Behind
     requires number { number ≤ equalisation_reads }
     requires brought { length bytes.now ≡ brings_in act }
     ensures value { result ≡ behind_equalisation attempt.now act drive number bytes.now }
@@ -161,7 +167,12 @@ fn behind_equalisation(attempt: &Attempt, act: Act, drive: Drive, number: u8, by
     })
 }
 
-fn behind_equalisation_status(attempt: &Attempt, drive: Drive, number: u8, status: Status6) -> Behind
+fn behind_equalisation_status(
+    attempt: &Attempt,
+    drive: Drive,
+    number: u8,
+    status: Status6,
+) -> Behind
     requires { number ≤ equalisation_reads }
     ensures value { result ≡ behind_equalisation_status attempt.now drive number status }
     ensures sound { IsReached result }

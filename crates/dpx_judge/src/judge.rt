@@ -1,6 +1,6 @@
+use crate::step::Step;
 use crate::taking::{Taken, take};
 use crate::turn::Turn;
-use crate::step::Step;
 use crate::verdict::{Ending, ending_at};
 use dpx_base::{Entry, Link};
 

@@ -56,7 +56,8 @@ fn take_ask(top: Link, turn: Turn, request: &Request, entry: &Entry) -> Taken
     let Entry::Asked {
         request: bytes,
         answer,
-    } = entry else {
+    } = entry
+    else {
         return Taken::Differs;
     };
     if bytes.as_slice() == encode_request(request).as_slice() {

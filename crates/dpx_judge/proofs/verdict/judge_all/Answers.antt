@@ -1,5 +1,3 @@
-use Rattle.std.proofs.Common.{subst, sym}
-use Rattle.dpx_judge.specs.Judge.{IsJudged, IsJudgedSoFar}
 use Rattle.dpx_judge.proofs.Verdicts.{differs_at, ended_at, judged_first, more_at, verdict_at_end}
 use Rattle.dpx_judge.proofs.verdict.judge_all.Goals as goal
 use Rattle.dpx_judge.proofs.verdict.judge_all.Goals.{in-More, in-Ended}

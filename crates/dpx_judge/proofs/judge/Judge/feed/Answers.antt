@@ -1,4 +1,4 @@
-use Rattle.std.proofs.Common.{refl, sym, subst}
+use Rattle.std.proofs.Common.{refl}
 use Rattle.dpx_judge.proofs.Judgings.{stands_differed, stands_ended, stands_on}
 use Rattle.dpx_judge.proofs.judge.Judge.feed.Goals as goal
 
