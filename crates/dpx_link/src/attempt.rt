@@ -15,7 +15,7 @@ use dpx_phase::{PhaseEnd, equalise, recover};
 
 /// How an attempt ended. `last` is the last status that was read.
 #[derive(Clone, Copy, Debug, PartialEq, Eq)]
-pub(crate) enum AttemptEnd {
+pub enum AttemptEnd {
     /// Equalised with this drive.
     Done { drive: Drive, last: Status6 },
     /// Clock recovery failed, or was lost in equalisation.
@@ -54,7 +54,7 @@ fn configure<P: AuxPort>(port: &mut P, link: Link) -> Result<(), AuxEnd>
 }
 
 /// The byte of register 00101: the lanes, and bit 7 for enhanced framing.
-fn lanes_byte(link: Link) -> u8
+pub fn lanes_byte(link: Link) -> u8
     ensures { result ≡ lanes_byte link }
 {
     let framing = if link.enhanced { 0x80 } else { 0x00 };
@@ -81,7 +81,7 @@ fn phases<P: AuxPort>(port: &mut P, caps: &Caps, link: Link) -> Result<AttemptEn
 }
 
 /// What an end of equalisation means for the attempt.
-fn equalised(end: PhaseEnd) -> Result<AttemptEnd, AuxEnd>
+pub fn equalised(end: PhaseEnd) -> Result<AttemptEnd, AuxEnd>
     ensures { result ≡ equalised end }
 {
     match end {

@@ -10,14 +10,14 @@ use dpx_dpcd::Status6;
 
 /// What follows an attempt.
 #[derive(Clone, Copy, Debug, PartialEq, Eq)]
-pub(crate) enum Next {
+pub enum Next {
     /// An attempt on this configuration.
     Try(Link),
     Stop(Verdict),
 }
 
 /// What follows an attempt on `link` that ended so, in a training that began with `first`.
-pub(crate) fn next_of(first: Link, link: Link, end: AttemptEnd) -> Next
+pub fn next_of(first: Link, link: Link, end: AttemptEnd) -> Next
     ensures value { result ≡ next_of first link end }
     ensures falls { Falls link result }
 {

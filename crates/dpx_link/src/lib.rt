@@ -13,9 +13,11 @@ mod laws;
 mod train_end;
 mod training;
 
+pub use attempt::{AttemptEnd, equalised, lanes_byte};
+pub use fallback::{Next, next_of};
 pub use laws::{
     falls_back, falls_in_order, is_bounded, is_read_last, one_history, some_history,
     trained_is_good,
 };
-pub use train_end::TrainEnd;
+pub use train_end::{TrainEnd, Verdict};
 pub use training::train;

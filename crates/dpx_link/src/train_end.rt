@@ -32,7 +32,7 @@ pub enum TrainEnd {
 
 /// How a training ended in which no transaction failed.
 #[derive(Clone, Copy, Debug, PartialEq, Eq)]
-pub(crate) enum Verdict {
+pub enum Verdict {
     Trained {
         link: Link,
         drive: Drive,

@@ -53,7 +53,8 @@ found {lanes = lanes} {alike = alike} {drive = drive} n status end r counted giv
     recovery_at lanes r.statuses status n drive alike (omega (arith, counted, r.counted)) r.goes.tracks r.runs
     ∙ sym given
 
-runs_on : (lanes : Lanes) (xs : List Status6) (x : Status6) (drive : List ℕ) (alike : ℕ)
+-- one more status, and the count of drives alike
+pub runs_on : (lanes : Lanes) (xs : List Status6) (x : Status6) (drive : List ℕ) (alike : ℕ)
     → drive ≡ drive_after lanes no_drive xs (length xs) → alike ≡ run (alike_after lanes no_drive xs) (length xs)
     → (if same_swings lanes drive (status_level lanes x.bytes) then alike + 1 else 1)
     ≡ run (alike_after lanes no_drive (xs ++ x ∷ [])) (length (xs ++ x ∷ []))

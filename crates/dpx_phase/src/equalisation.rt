@@ -42,8 +42,8 @@ pub fn equalise<P: AuxPort>(
     }
 }
 
-/// The microseconds before each read: this project's own rule for an interval above 4.
-fn pause_of(interval: u8) -> u32
+/// The microseconds before each read of equalisation: this project's own rule for an interval above 4.
+pub fn pause_of(interval: u8) -> u32
     ensures { result ≡ pause_of interval }
 {
     if interval == 0 {
@@ -98,8 +98,8 @@ fn adjust<P: AuxPort>(
     unreachable!()
 }
 
-/// How equalisation ends at the status of this number, if it ends there.
-fn equalisation_end(lanes: Lanes, status: Status6, drive: Drive, number: u8) -> Option<PhaseEnd>
+/// How equalisation ends at the status of this number, counted from 1, if it ends there.
+pub fn equalisation_end(lanes: Lanes, status: Status6, drive: Drive, number: u8) -> Option<PhaseEnd>
     requires { number ≤ equalisation_reads }
     ensures value { result ≡ equalisation_end lanes number drive.registers status }
     ensures unended { IfNone result (number < equalisation_reads) }

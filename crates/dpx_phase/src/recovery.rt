@@ -19,20 +19,20 @@ use dpx_dpcd::{Drive, Pattern, Status6};
 /// How many statuses are read at most: this project's own number.
 const READS: u8 = 10;
 
-/// The microseconds before each read.
-const PAUSE: u32 = 100;
+/// The microseconds before each read of clock recovery.
+pub const RECOVERY_PAUSE: u32 = 100;
 
 /// After so many drives with equal swings, recovery fails: this project's own number.
 const ALIKE: u8 = 5;
 
-/// No swing and no emphasis.
-const NO_DRIVE: Drive = Drive { registers: [0; 4] };
+/// No swing and no emphasis: the drive that clock recovery begins with.
+pub const NO_DRIVE: Drive = Drive { registers: [0; 4] };
 
-/// The drive in force, and how many drives up to it have had its swings.
-#[derive(Clone, Copy)]
-struct Level {
-    drive: Drive,
-    alike: u8,
+/// The drive in force in clock recovery, and how many drives in a row, up to it, have had its swings.
+#[derive(Clone, Copy, Debug, PartialEq, Eq)]
+pub struct Level {
+    pub drive: Drive,
+    pub alike: u8,
 }
 
 /// Clock recovery: training pattern 1 with no drive, and then the drives that the sink asks for.
@@ -73,20 +73,20 @@ fn adjust<P: AuxPort>(port: &mut P, lanes: Lanes) -> Result<PhaseEnd, AuxEnd>
         alike: 1,
     };
     for number in 1..READS + 1 {
-        let status = read_later(port, PAUSE)?;
+        let status = read_later(port, RECOVERY_PAUSE)?;
         match recovery_end(lanes, status, level, number) {
             Some(end) => return Ok(end),
             None => {}
         }
-        level = next(lanes, status, level);
+        level = next_level(lanes, status, level);
         write_drive(port, lanes, level.drive)?;
     }
     // The tenth status always ends the phase.
     unreachable!()
 }
 
-/// How recovery ends at the status of this number, if it ends there.
-fn recovery_end(lanes: Lanes, status: Status6, level: Level, number: u8) -> Option<PhaseEnd>
+/// How recovery ends at the status of this number, counted from 1, if it ends there.
+pub fn recovery_end(lanes: Lanes, status: Status6, level: Level, number: u8) -> Option<PhaseEnd>
     requires { number ≤ recovery_reads }
     ensures value { result ≡ recovery_end lanes (nat_le 5 level.alike) number level.drive.registers status }
     ensures unended { IfNone result (number < recovery_reads) }
@@ -118,7 +118,7 @@ fn recovery_end(lanes: Lanes, status: Status6, level: Level, number: u8) -> Opti
 }
 
 /// The drive that the status asks for, and whether it goes on with the same swings.
-fn next(lanes: Lanes, status: Status6, level: Level) -> Level
+pub fn next_level(lanes: Lanes, status: Status6, level: Level) -> Level
     requires { level.alike < 255 }
     ensures drive { result.drive.registers ≡ status_level lanes status.bytes }
     ensures alike { result.alike ≡ (if same_swings lanes level.drive.registers (status_level lanes status.bytes)

@@ -1,0 +1,11 @@
+pub mod Attempts
+pub mod Hearing
+pub mod Live
+pub mod Phases
+pub mod Rounds
+pub mod Same
+pub mod Steps
+pub mod Takings
+pub mod Judgings
+pub mod Transcripts
+pub mod Verdicts

@@ -1,0 +1,4 @@
+pub mod Judge
+pub mod Machine
+pub mod Remainder
+pub mod Transcript
