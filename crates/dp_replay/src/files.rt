@@ -25,7 +25,7 @@ impl CommandFiles {
     /// Opens the files in the order of the words.
     pub fn open<R: Files<File = File>>(rt: &R, command: &Command) -> CommandFiles {
         match command {
-            Command::Train { job } | Command::Watch { job } => CommandFiles {
+            Command::Train { job } | Command::Watch { job } | Command::Judge { job } => CommandFiles {
                 src: FileSource::open(rt, job.as_str()),
                 ..CommandFiles::none()
             },

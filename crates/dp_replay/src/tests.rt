@@ -14,6 +14,7 @@ use std::thread::Threads;
 mod by_table;
 mod faults;
 mod histories;
+mod judging;
 mod receive_faults;
 mod receiving;
 mod reports;

@@ -1,5 +1,6 @@
 pub mod Captures
 pub mod Jobs
+pub mod Judges
 pub mod LineSteps
 pub mod Modelled
 pub mod Printings

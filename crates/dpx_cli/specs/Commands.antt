@@ -1,7 +1,7 @@
 -- Which command the words ask for.
 use Rattle.std.specs.Prelude.{⊤}
 use Rattle.dpx_words.specs.declared.command.Command.{Command}
-use Rattle.dpx_words.specs.declared.command.Command.TheVariants.{Train, Send, Run, Recv, Watch}
+use Rattle.dpx_words.specs.declared.command.Command.TheVariants.{Train, Send, Run, Recv, Watch, Judge}
 
 abbrev pub IsTrain : Command → Type 0
 IsTrain (Train job) = ⊤
@@ -22,3 +22,7 @@ IsRecv other = ⊥
 abbrev pub IsWatch : Command → Type 0
 IsWatch (Watch job) = ⊤
 IsWatch other = ⊥
+
+abbrev pub IsJudge : Command → Type 0
+IsJudge (Judge job) = ⊤
+IsJudge other = ⊥

@@ -1,6 +1,8 @@
 pub mod Commands
 pub mod Digits
 pub mod Jobs
+pub mod Judge
+pub mod JudgeLines
 pub mod Lines
 pub mod Printing
 pub mod Receiving

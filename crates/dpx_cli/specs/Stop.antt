@@ -13,13 +13,14 @@ use Rattle.dpx_cli.specs.declared.stop.JobRefusal.{JobRefusal}
 use Rattle.dpx_cli.specs.declared.stop.JobRefusal.TheVariants.{TooLong, NotJson, Wrong}
 use Rattle.dpx_cli.specs.declared.stop.Stop.{Stop}
 use Rattle.dpx_cli.specs.declared.stop.Stop.TheVariants as stop
+use Rattle.dpx_cli.specs.JudgeLines.{not_whole_line}
 use Rattle.dpx_cli.specs.Lines.{line_feed, train_report}
 use Rattle.dpx_cli.specs.RecvLines.{header_line, word_line, set_line, finish_line}
 use Rattle.dpx_cli.specs.SendLines.{unfit_line, bad_pixel_line, pixels_ended_line}
 
 abbrev pub usage_line : List ℕ
 usage_line =
-    codes "usage: dp_replay train JOB | send JOB PIXELS CAPTURE [one|lanes] | run JOB PIXELS CAPTURE [one|lanes] | recv CAPTURE PIXELS [one|lanes] | gen SEED [one|lanes] | watch JOB\n"
+    codes "usage: dp_replay train JOB | send JOB PIXELS CAPTURE [one|lanes] | run JOB PIXELS CAPTURE [one|lanes] | recv CAPTURE PIXELS [one|lanes] | gen SEED [one|lanes] | watch JOB | judge JOB\n"
 
 abbrev pub memory_line : List ℕ
 memory_line = codes "memory\n"
@@ -70,6 +71,7 @@ stop_status stop.WriteFault = 8
 stop_status stop.OutFault = 8
 stop_status stop.PipeFault = 9
 stop_status stop.NoMemory = 10
+stop_status (stop.NotWhole why) = 14
 
 abbrev pub job_line : JobRefusal → List ℕ
 job_line TooLong = codes "job too long\n"
@@ -92,6 +94,7 @@ stop_lines (stop.Unfit why) = unfit_line why
 stop_lines (stop.BadPixel number value) = bad_pixel_line number value
 stop_lines (stop.PixelsEnded number) = pixels_ended_line number
 stop_lines (stop.Capture why) = capture_line why
+stop_lines (stop.NotWhole why) = not_whole_line why
 stop_lines stop.ReadFault = read_fault_line
 stop_lines stop.WriteFault = write_fault_line
 stop_lines stop.PipeFault = pipe_fault_line

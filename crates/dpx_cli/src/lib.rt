@@ -10,6 +10,8 @@
 
 mod commands;
 mod job;
+mod judge;
+mod judge_lines;
 mod lines;
 mod printing;
 mod receiving;

@@ -1,6 +1,7 @@
 ghost use Rattle.std.specs.Prelude.{◌≡◌, ◌++◌, OnOk};
 ghost use Rattle.dpx_cli.specs.Stop.{stop_lines, stop_status, job_line, capture_line, stop_of_job};
 
+use crate::judge_lines::push_not_whole;
 use crate::lines::push_train_end;
 use crate::recv_lines::{push_bad_set, push_bad_word, push_finish_end, push_header};
 use crate::report::Report;
@@ -35,6 +36,15 @@ pub(crate) enum CaptureBad {
     Unfinished(FinishEnd),
 }
 
+/// Why a recorded history is not that of a training.
+#[derive(Clone, Copy, Debug, PartialEq, Eq)]
+pub(crate) enum NotWhole {
+    /// It breaks off after so many entries.
+    Short(u64),
+    /// It differs from every one of them, from the entry at this place on.
+    Differs(u64),
+}
+
 /// Why a command stops before all was done.
 #[derive(Debug, Drop)]
 pub(crate) enum Stop {
@@ -50,6 +60,7 @@ pub(crate) enum Stop {
     /// The pipe holds so many pixels, and a further one is due.
     PixelsEnded(u64),
     Capture(CaptureBad),
+    NotWhole(NotWhole),
     ReadFault,
     /// A write of the capture, or of the pixels, failed.
     WriteFault,
@@ -60,7 +71,7 @@ pub(crate) enum Stop {
 }
 
 const USAGE: &str =
-    "usage: dp_replay train JOB | send JOB PIXELS CAPTURE [one|lanes] | run JOB PIXELS CAPTURE [one|lanes] | recv CAPTURE PIXELS [one|lanes] | gen SEED [one|lanes] | watch JOB\n";
+    "usage: dp_replay train JOB | send JOB PIXELS CAPTURE [one|lanes] | run JOB PIXELS CAPTURE [one|lanes] | recv CAPTURE PIXELS [one|lanes] | gen SEED [one|lanes] | watch JOB | judge JOB\n";
 
 pub(crate) const MEMORY: &str = "memory\n";
 
@@ -103,6 +114,7 @@ impl Stop {
             Stop::WriteFault | Stop::OutFault => 8,
             Stop::PipeFault => 9,
             Stop::NoMemory => 10,
+            Stop::NotWhole(_) => 14,
         }
     }
 
@@ -118,6 +130,7 @@ impl Stop {
             Stop::BadPixel { number, value } => push_bad_pixel(report, *number, *value),
             Stop::PixelsEnded(number) => push_pixels_ended(report, *number),
             Stop::Capture(why) => push_capture(report, *why),
+            Stop::NotWhole(why) => push_not_whole(report, *why),
             Stop::ReadFault => report.push("read fault\n"),
             Stop::WriteFault => report.push("write fault\n"),
             Stop::PipeFault => report.push("pipe fault\n"),

@@ -8,7 +8,7 @@ use Rattle.dpx_base.specs.declared.workers.Workers.{Workers}
 use Rattle.dpx_base.specs.declared.workers.Workers.TheVariants.{One, Lanes}
 use Rattle.dpx_words.specs.Dashes.{has_dash}
 use Rattle.dpx_words.specs.declared.command.Command.{Command}
-use Rattle.dpx_words.specs.declared.command.Command.TheVariants.{Train, Send, Run, Recv, Watch}
+use Rattle.dpx_words.specs.declared.command.Command.TheVariants.{Train, Send, Run, Recv, Watch, Judge}
 use Rattle.dpx_words.specs.declared.command.WordsEnd.{WordsEnd}
 use Rattle.dpx_words.specs.declared.command.WordsEnd.TheVariants.{Usage, Memory}
 use Rattle.dpx_words.specs.declared.verbs.Sending.{Sending}
@@ -37,6 +37,9 @@ train_of rest = option_map (λ job. Train job) (only_of rest)
 abbrev pub watch_of : List (List ℕ) → Option Command
 watch_of rest = option_map (λ job. Watch job) (only_of rest)
 
+abbrev pub judge_of : List (List ℕ) → Option Command
+judge_of rest = option_map (λ job. Judge job) (only_of rest)
+
 abbrev pub sending_of : List (List ℕ) → Option Sending
 sending_of (job ∷ pixels ∷ capture ∷ rest) =
     option_map (λ workers. record { job = job; pixels = pixels; capture = capture; workers = workers }) (workers_of rest)
@@ -61,6 +64,7 @@ command_of (verb ∷ rest) =
     else if bytes_eq verb (codes "run") then run_of rest
     else if bytes_eq verb (codes "recv") then recv_of rest
     else if bytes_eq verb (codes "watch") then watch_of rest
+    else if bytes_eq verb (codes "judge") then judge_of rest
     else None
 
 -- the command that the words ask for, if they have a reading

@@ -1,5 +1,6 @@
 ghost use Rattle.std.specs.Prelude.{map};
 ghost use Rattle.dpx_words.specs.Reading.{WordsRead, train_of, sending_of, send_of, run_of, recv_of, command_of, only_of, watch_of};
+ghost use Rattle.dpx_words.specs.Reading.{judge_of};
 
 use crate::arguments::read_workers;
 use crate::{Command, Name, WordsEnd};
@@ -19,6 +20,7 @@ pub(crate) fn read_command(alloc: Global, words: &[&str]) -> Result<Command, Wor
         "run" => read_run(alloc, rest),
         "recv" => read_recv(alloc, rest),
         "watch" => read_watch(alloc, rest),
+        "judge" => read_judge(alloc, rest),
         _ => Err(WordsEnd::Usage),
     }
 }
@@ -45,6 +47,13 @@ fn read_watch(alloc: Global, rest: &[&str]) -> Result<Command, WordsEnd>
 {
     let job = read_only(alloc, rest)?;
     Ok(Command::Watch { job })
+}
+
+fn read_judge(alloc: Global, rest: &[&str]) -> Result<Command, WordsEnd>
+    ensures { WordsRead (judge_of (map (λ word. word.now) rest.now)) result }
+{
+    let job = read_only(alloc, rest)?;
+    Ok(Command::Judge { job })
 }
 
 /// The words of a command that sends, behind the first one.

@@ -13,7 +13,7 @@ use std::thread::Threads;
 
 const USAGE: &str = "usage: dp_replay train JOB | send JOB PIXELS CAPTURE [one|lanes] \
     | run JOB PIXELS CAPTURE [one|lanes] | recv CAPTURE PIXELS [one|lanes] | gen SEED [one|lanes] \
-    | watch JOB\n";
+    | watch JOB | judge JOB\n";
 
 pub(crate) const TWO_LANES: &str = r#""rate":"RBR","lanes":2"#;
 
