@@ -25,12 +25,13 @@ impl CommandFiles {
     /// Opens the files in the order of the words.
     pub fn open<R: Files<File = File>>(rt: &R, command: &Command) -> CommandFiles {
         match command {
-            Command::Train { job } | Command::Edid { job } | Command::Watch { job } => {
-                CommandFiles {
-                    src: FileSource::open(rt, job.as_str()),
-                    ..CommandFiles::none()
-                }
-            }
+            Command::Train { job }
+            | Command::Edid { job }
+            | Command::Watch { job }
+            | Command::Judge { job } => CommandFiles {
+                src: FileSource::open(rt, job.as_str()),
+                ..CommandFiles::none()
+            },
             Command::Send {
                 job,
                 pixels,

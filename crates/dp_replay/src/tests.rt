@@ -17,6 +17,7 @@ mod faults;
 mod gate;
 mod generating;
 mod histories;
+mod judging;
 mod receive_faults;
 mod receiving;
 mod reports;

@@ -5,6 +5,7 @@ pub mod Equals
 pub mod Generations
 pub mod Gens
 pub mod Jobs
+pub mod Judges
 pub mod LineSteps
 pub mod Modelled
 pub mod Numbers

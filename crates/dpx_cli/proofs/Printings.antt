@@ -112,6 +112,7 @@ module _ (out : Step SinkSeen) (said : List ℕ) (status : ℕ) where
   ended_at_8 (Err (stop.BadPixel number value)) p e = inr (stopped_at_8 (stop.BadPixel number value) (λ c. cc) p e)
   ended_at_8 (Err (stop.PixelsEnded number)) p e = inr (stopped_at_8 (stop.PixelsEnded number) (λ c. cc) p e)
   ended_at_8 (Err (stop.Capture why)) p e = inr (stopped_at_8 (stop.Capture why) (λ c. cc) p e)
+  ended_at_8 (Err (stop.NotWhole why)) p e = inr (stopped_at_8 (stop.NotWhole why) (λ c. cc) p e)
   ended_at_8 (Err stop.ReadFault) p e = inr (stopped_at_8 stop.ReadFault (λ c. cc) p e)
   ended_at_8 (Err stop.PipeFault) p e = inr (stopped_at_8 stop.PipeFault (λ c. cc) p e)
   ended_at_8 (Err stop.NoMemory) p e = inr (stopped_at_8 stop.NoMemory (λ c. cc) p e)

@@ -1,7 +1,7 @@
 -- Which command the words ask for.
 use Rattle.std.specs.Prelude.{◌≡◌, ℕ, ⊤}
 use Rattle.dpx_words.specs.declared.command.Command.{Command}
-use Rattle.dpx_words.specs.declared.command.Command.TheVariants.{Train, Send, Run, Recv, Gen, Edid, Watch}
+use Rattle.dpx_words.specs.declared.command.Command.TheVariants.{Train, Send, Run, Recv, Gen, Edid, Watch, Judge}
 
 abbrev pub IsTrain : Command → Type 0
 IsTrain (Train job) = ⊤
@@ -31,3 +31,7 @@ IsEdid other = ⊥
 abbrev pub IsWatch : Command → Type 0
 IsWatch (Watch job) = ⊤
 IsWatch other = ⊥
+
+abbrev pub IsJudge : Command → Type 0
+IsJudge (Judge job) = ⊤
+IsJudge other = ⊥

@@ -7,6 +7,8 @@ pub mod Gen
 pub mod GenLines
 pub mod Generating
 pub mod Jobs
+pub mod Judge
+pub mod JudgeLines
 pub mod Lines
 pub mod Printing
 pub mod Receiving

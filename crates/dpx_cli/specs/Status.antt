@@ -5,7 +5,7 @@ use Rattle.std.specs.Prelude.{◌≡◌, ◌≢◌, ◌⊎◌, ℕ}
 abbrev pub IsExitStatus : ℕ → Type 0
 IsExitStatus n =
     (n ≡ 0) ⊎ (n ≡ 2) ⊎ (n ≡ 3) ⊎ (n ≡ 4) ⊎ (n ≡ 5) ⊎ (n ≡ 6) ⊎ (n ≡ 7) ⊎ (n ≡ 8) ⊎ (n ≡ 9) ⊎ (n ≡ 10)
-    ⊎ (n ≡ 13)
+    ⊎ (n ≡ 13) ⊎ (n ≡ 14)
 
 -- no fault was met, and there was memory
 pub record IsClean (status : ℕ) : Type 0 where

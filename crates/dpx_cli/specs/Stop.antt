@@ -14,13 +14,14 @@ use Rattle.dpx_cli.specs.declared.stop.JobRefusal.TheVariants.{TooLong, NotJson,
 use Rattle.dpx_cli.specs.declared.stop.Stop.{Stop}
 use Rattle.dpx_cli.specs.declared.stop.Stop.TheVariants as stop
 use Rattle.dpx_cli.specs.EdidLines.{unfetched_line, bad_edid_line}
+use Rattle.dpx_cli.specs.JudgeLines.{not_whole_line}
 use Rattle.dpx_cli.specs.Lines.{line_feed, train_report}
 use Rattle.dpx_cli.specs.RecvLines.{header_line, word_line, set_line, finish_line}
 use Rattle.dpx_cli.specs.SendLines.{unfit_line, bad_pixel_line, pixels_ended_line}
 
 abbrev pub usage_line : List ℕ
 usage_line =
-    codes "usage: dp_replay train JOB | send JOB PIXELS CAPTURE [one|lanes] | run JOB PIXELS CAPTURE [one|lanes] | recv CAPTURE PIXELS [one|lanes] | gen SEED [one|lanes] | edid JOB | watch JOB\n"
+    codes "usage: dp_replay train JOB | send JOB PIXELS CAPTURE [one|lanes] | run JOB PIXELS CAPTURE [one|lanes] | recv CAPTURE PIXELS [one|lanes] | gen SEED [one|lanes] | edid JOB | watch JOB | judge JOB\n"
 
 abbrev pub memory_line : List ℕ
 memory_line = codes "memory\n"
@@ -73,6 +74,7 @@ stop_status stop.OutFault = 8
 stop_status stop.PipeFault = 9
 stop_status stop.NoMemory = 10
 stop_status (stop.BadEdid why requests) = 13
+stop_status (stop.NotWhole why) = 14
 
 abbrev pub job_line : JobRefusal → List ℕ
 job_line TooLong = codes "job too long\n"
@@ -97,6 +99,7 @@ stop_lines (stop.BadEdid why requests) = bad_edid_line why requests
 stop_lines (stop.BadPixel number value) = bad_pixel_line number value
 stop_lines (stop.PixelsEnded number) = pixels_ended_line number
 stop_lines (stop.Capture why) = capture_line why
+stop_lines (stop.NotWhole why) = not_whole_line why
 stop_lines stop.ReadFault = read_fault_line
 stop_lines stop.WriteFault = write_fault_line
 stop_lines stop.PipeFault = pipe_fault_line

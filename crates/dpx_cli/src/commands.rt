@@ -5,9 +5,10 @@ ghost use Rattle.dpx_link.specs.Training.{training_entries};
 ghost use Rattle.dpx_watch.specs.Step.{step_entries};
 ghost use Rattle.dpx_words.specs.Reading.{command_in};
 ghost use Rattle.dpx_cli.specs.declared.stop.Stop.{Stop};
-ghost use Rattle.dpx_cli.specs.Commands.{IsTrain, IsSend, IsRun, IsRecv, IsGen, IsEdid, IsWatch};
+ghost use Rattle.dpx_cli.specs.Commands.{IsTrain, IsSend, IsRun, IsRecv, IsGen, IsEdid, IsWatch, IsJudge};
 ghost use Rattle.dpx_cli.specs.Edid.{EdidDoes};
 ghost use Rattle.dpx_cli.specs.Gen.{GenDoes};
+ghost use Rattle.dpx_cli.specs.Judge.{JudgeDoes};
 ghost use Rattle.dpx_cli.specs.Printing.{StopsAtOnce};
 ghost use Rattle.dpx_cli.specs.Recv.{RecvDoes};
 ghost use Rattle.dpx_cli.specs.Run.{RunDoes};
@@ -20,6 +21,7 @@ ghost use Rattle.dpx_cli.specs.Transfer.{Prints, PrintsFirst};
 
 use crate::edid::edid;
 use crate::generate::generate;
+use crate::judge::judge;
 use crate::printing::print_stop;
 use crate::recv::recv;
 use crate::run::run;
@@ -46,7 +48,7 @@ use std::thread::Threads;
 /// * 4: not trained, capabilities refused, an AUX transaction failed, or no EDID was fetched
 /// * 5: the mode does not fit the link; 6: the capture is refused
 /// * 7: a read failed; 8: a write failed; 9: the pipe failed; 10: want of memory
-/// * 13: the EDID is refused
+/// * 13: the EDID is refused; 14: a recorded history is not that of a training
 pub fn replay<S: Source, T: Pipe, P: LoadPort, O: Sink, R: Threads + Sync>(
     rt: &R,
     alloc: Global,
@@ -118,6 +120,10 @@ pub fn replay<S: Source, T: Pipe, P: LoadPort, O: Sink, R: Threads + Sync>(
     ensures watch { IsSomeAnd (command_in words.now) IsWatch → WatchDoes (S.seen src.old ⇒ S.seen src.new)
         (P.state aux.old ⇒ P.state aux.new) (aux.new ≡ aux.old) (O.seen out.old ⇒ O.seen out.new) result }
     ensures watch_keeps { IsSomeAnd (command_in words.now) IsWatch → (pipe.new ≡ pipe.old) × (pix.new ≡ pix.old) }
+    ensures judge { IsSomeAnd (command_in words.now) IsJudge → JudgeDoes (S.seen src.old ⇒ S.seen src.new)
+        (O.seen out.old ⇒ O.seen out.new) result }
+    ensures judge_keeps { IsSomeAnd (command_in words.now) IsJudge
+        → (pipe.new ≡ pipe.old) × (aux.new ≡ aux.old) × (pix.new ≡ pix.old) }
 {
     replay_gated(rt, alloc, words, src, pipe, aux, pix, out, &NoGate)
 }
@@ -195,6 +201,10 @@ pub fn replay_gated<S: Source, T: Pipe, P: LoadPort, O: Sink, G: Gate, R: Thread
     ensures watch { IsSomeAnd (command_in words.now) IsWatch → WatchDoes (S.seen src.old ⇒ S.seen src.new)
         (P.state aux.old ⇒ P.state aux.new) (aux.new ≡ aux.old) (O.seen out.old ⇒ O.seen out.new) result }
     ensures watch_keeps { IsSomeAnd (command_in words.now) IsWatch → (pipe.new ≡ pipe.old) × (pix.new ≡ pix.old) }
+    ensures judge { IsSomeAnd (command_in words.now) IsJudge → JudgeDoes (S.seen src.old ⇒ S.seen src.new)
+        (O.seen out.old ⇒ O.seen out.new) result }
+    ensures judge_keeps { IsSomeAnd (command_in words.now) IsJudge
+        → (pipe.new ≡ pipe.old) × (aux.new ≡ aux.old) × (pix.new ≡ pix.old) }
 {
     a_capture_is_one();
     headers_come_back();
@@ -213,6 +223,7 @@ pub fn replay_gated<S: Source, T: Pipe, P: LoadPort, O: Sink, G: Gate, R: Thread
         Ok(Command::Gen { seed, workers }) => generate(rt, alloc, seed, pix, out, workers, gate),
         Ok(Command::Edid { .. }) => edid(alloc, src, aux, out),
         Ok(Command::Watch { .. }) => watch(alloc, src, aux, out),
+        Ok(Command::Judge { .. }) => judge(alloc, src, out),
         Err(WordsEnd::Usage) => print_stop(alloc, out, &Stop::Usage),
         Err(WordsEnd::Memory) => print_stop(alloc, out, &Stop::NoMemory),
     }

@@ -18,6 +18,8 @@ mod gen_lines;
 mod generate;
 mod generating;
 mod job;
+mod judge;
+mod judge_lines;
 mod lines;
 mod printing;
 mod receiving;

@@ -2,6 +2,7 @@ ghost use Rattle.std.specs.Prelude.{◌≡◌, ◌++◌, OnOk};
 ghost use Rattle.dpx_cli.specs.Stop.{stop_lines, stop_status, job_line, capture_line, stop_of_job};
 
 use crate::edid_lines::{push_bad_edid, push_unfetched};
+use crate::judge_lines::push_not_whole;
 use crate::lines::push_train_end;
 use crate::recv_lines::{push_bad_set, push_bad_word, push_finish_end, push_header};
 use crate::report::Report;
@@ -38,6 +39,15 @@ pub(crate) enum CaptureBad {
     Unfinished(FinishEnd),
 }
 
+/// Why a recorded history is not that of a training.
+#[derive(Clone, Copy, Debug, PartialEq, Eq)]
+pub(crate) enum NotWhole {
+    /// It breaks off after so many entries.
+    Short(u64),
+    /// It differs from every one of them, from the entry at this place on.
+    Differs(u64),
+}
+
 /// Why a command stops before all was done.
 #[derive(Debug, Drop)]
 pub(crate) enum Stop {
@@ -57,6 +67,7 @@ pub(crate) enum Stop {
     /// The pipe holds so many pixels, and a further one is due.
     PixelsEnded(u64),
     Capture(CaptureBad),
+    NotWhole(NotWhole),
     ReadFault,
     /// A write of the capture, or of the pixels, failed.
     WriteFault,
@@ -67,7 +78,7 @@ pub(crate) enum Stop {
 }
 
 const USAGE: &str =
-    "usage: dp_replay train JOB | send JOB PIXELS CAPTURE [one|lanes] | run JOB PIXELS CAPTURE [one|lanes] | recv CAPTURE PIXELS [one|lanes] | gen SEED [one|lanes] | edid JOB | watch JOB\n";
+    "usage: dp_replay train JOB | send JOB PIXELS CAPTURE [one|lanes] | run JOB PIXELS CAPTURE [one|lanes] | recv CAPTURE PIXELS [one|lanes] | gen SEED [one|lanes] | edid JOB | watch JOB | judge JOB\n";
 
 pub(crate) const MEMORY: &str = "memory\n";
 
@@ -123,6 +134,7 @@ impl Stop {
             Stop::PipeFault => 9,
             Stop::NoMemory => 10,
             Stop::BadEdid { .. } => 13,
+            Stop::NotWhole(_) => 14,
         }
     }
 
@@ -140,6 +152,7 @@ impl Stop {
             Stop::BadPixel { number, value } => push_bad_pixel(report, *number, *value),
             Stop::PixelsEnded(number) => push_pixels_ended(report, *number),
             Stop::Capture(why) => push_capture(report, *why),
+            Stop::NotWhole(why) => push_not_whole(report, *why),
             Stop::ReadFault => report.push("read fault\n"),
             Stop::WriteFault => report.push("write fault\n"),
             Stop::PipeFault => report.push("pipe fault\n"),

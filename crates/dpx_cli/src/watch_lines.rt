@@ -62,8 +62,9 @@ fn push_outcome(report: &mut Report, outcome: &Outcome) -> Result<(), AllocError
     }
 }
 
+/// Writes the link that was trained.
 #[tactic(auto, unfolding(crate::specs::WatchLines::trained_text))]
-fn push_trained(report: &mut Report, link: Link) -> Result<(), AllocError>
+pub(crate) fn push_trained(report: &mut Report, link: Link) -> Result<(), AllocError>
     ensures { OnOk result (report.new ≡ report.old ++ trained_text link) }
 {
     report.push("trained ")?;

@@ -14,6 +14,7 @@ mod code;
 mod dpcd;
 mod edid;
 mod files;
+mod judge;
 mod lane;
 mod link;
 mod main_link;

@@ -9,7 +9,7 @@ use Rattle.dpx_base.specs.declared.workers.Workers.TheVariants.{One, Lanes}
 use Rattle.dpx_words.specs.Dashes.{has_dash}
 use Rattle.dpx_words.specs.Seed.{seed_named}
 use Rattle.dpx_words.specs.declared.command.Command.{Command}
-use Rattle.dpx_words.specs.declared.command.Command.TheVariants.{Train, Send, Run, Recv, Gen, Edid, Watch}
+use Rattle.dpx_words.specs.declared.command.Command.TheVariants.{Train, Send, Run, Recv, Gen, Edid, Watch, Judge}
 use Rattle.dpx_words.specs.declared.command.WordsEnd.{WordsEnd}
 use Rattle.dpx_words.specs.declared.command.WordsEnd.TheVariants.{Usage, Memory}
 use Rattle.dpx_words.specs.declared.verbs.Sending.{Sending}
@@ -40,6 +40,9 @@ edid_of rest = option_map (λ job. Edid job) (only_of rest)
 
 abbrev pub watch_of : List (List ℕ) → Option Command
 watch_of rest = option_map (λ job. Watch job) (only_of rest)
+
+abbrev pub judge_of : List (List ℕ) → Option Command
+judge_of rest = option_map (λ job. Judge job) (only_of rest)
 
 abbrev pub sending_of : List (List ℕ) → Option Sending
 sending_of (job ∷ pixels ∷ capture ∷ rest) =
@@ -75,6 +78,7 @@ command_of (verb ∷ rest) =
     else if bytes_eq verb (codes "gen") then gen_of rest
     else if bytes_eq verb (codes "edid") then edid_of rest
     else if bytes_eq verb (codes "watch") then watch_of rest
+    else if bytes_eq verb (codes "judge") then judge_of rest
     else None
 
 -- the command that the words ask for, if they have a reading

@@ -75,6 +75,10 @@ pub enum Command {
     Watch {
         job: Name,
     },
+    /// Judge whether the job's history is that of a training of its link.
+    Judge {
+        job: Name,
+    },
 }
 
 /// Why words are not read.

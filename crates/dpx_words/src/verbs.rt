@@ -1,6 +1,6 @@
 ghost use Rattle.std.specs.Prelude.{map};
 ghost use Rattle.dpx_words.specs.Reading.{WordsRead, train_of, sending_of, send_of, run_of, recv_of, gen_of, command_of};
-ghost use Rattle.dpx_words.specs.Reading.{only_of, edid_of, watch_of};
+ghost use Rattle.dpx_words.specs.Reading.{only_of, edid_of, watch_of, judge_of};
 
 use crate::arguments::{named_seed, read_workers};
 use crate::{Command, Name, WordsEnd};
@@ -22,6 +22,7 @@ pub(crate) fn read_command(alloc: Global, words: &[&str]) -> Result<Command, Wor
         "gen" => read_gen(rest),
         "edid" => read_edid(alloc, rest),
         "watch" => read_watch(alloc, rest),
+        "judge" => read_judge(alloc, rest),
         _ => Err(WordsEnd::Usage),
     }
 }
@@ -55,6 +56,13 @@ fn read_watch(alloc: Global, rest: &[&str]) -> Result<Command, WordsEnd>
 {
     let job = read_only(alloc, rest)?;
     Ok(Command::Watch { job })
+}
+
+fn read_judge(alloc: Global, rest: &[&str]) -> Result<Command, WordsEnd>
+    ensures { WordsRead (judge_of (map (λ word. word.now) rest.now)) result }
+{
+    let job = read_only(alloc, rest)?;
+    Ok(Command::Judge { job })
 }
 
 /// The words of a command that sends, behind the first one.

@@ -13,7 +13,7 @@ use std::thread::Threads;
 
 pub(crate) const USAGE: &str = "usage: dp_replay train JOB | send JOB PIXELS CAPTURE [one|lanes] \
     | run JOB PIXELS CAPTURE [one|lanes] | recv CAPTURE PIXELS [one|lanes] | gen SEED [one|lanes] \
-    | edid JOB | watch JOB\n";
+    | edid JOB | watch JOB | judge JOB\n";
 
 pub(crate) const TWO_LANES: &str = r#""rate":"RBR","lanes":2"#;
 

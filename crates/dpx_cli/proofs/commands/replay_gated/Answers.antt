@@ -6,6 +6,7 @@ use Rattle.dpx_cli.proofs.Runs.{unread_words_run}
 use Rattle.dpx_cli.proofs.Sends.{unread_words_send}
 use Rattle.dpx_cli.proofs.Trainings.{unread_words_do}
 use Rattle.dpx_cli.proofs.Reportings.{unread_words_report}
+use Rattle.dpx_cli.proofs.Judges.{verdicts_are_reports}
 use Rattle.dpx_cli.proofs.Watches.{events_are_reports}
 use Rattle.dpx_cli.proofs.commands.replay_gated.Goals as goal
 
@@ -44,3 +45,7 @@ returns-clause-edid g c asked =
 pub returns-clause-watch : goal.returns-clause-watch
 returns-clause-watch g c asked =
     unread_words_report _ _ _ _ _ (events_are_reports _ _) _ _ refl refl c.print_stop-in-Err-Memory.ensures
+
+pub returns-clause-judge : goal.returns-clause-judge
+returns-clause-judge g c asked =
+    unread_words_report _ _ _ _ _ (verdicts_are_reports _) _ _ tt refl c.print_stop-in-Err-Memory.ensures
