@@ -3,7 +3,11 @@
 use super::sending::{
     CALM, Fails, PIXELS, Stage, TWO_FRAMES, TWO_LANES, ends, job, pixels, status,
 };
+use super::words;
+use crate::file_pipe::FilePipe;
+use crate::file_source::FileSource;
 use dpx_base::Pixel;
+use dpx_cli::replay;
 use std::alloc::Global;
 use std::process::Abort;
 use std::test::Fail;
@@ -72,6 +76,25 @@ fn a_fault_at_once_stops_the_command(rt: HostRuntime) -> Result<(), Fail> {
     let report = "plan symbols 24 n 1296000 m 2592000 unit 32 delay 25 end 40 bound 20\n\
         write fault\n";
     fails_with(&rt, rt.alloc(), untaken, (report, 8), (0, 0))
+}
+
+#[test]
+fn a_pipe_that_does_not_begin_leaves_the_capture_empty(rt: HostRuntime) -> Result<(), Fail> {
+    let alloc = rt.alloc();
+    let job = job(alloc, TWO_LANES, TWO_FRAMES, 8)?;
+    let mut stage = Stage::new(alloc, job.as_str(), Vec::new(alloc), CALM)?;
+    let status = replay(
+        &rt,
+        alloc,
+        words(alloc, "send a b c")?.as_slice(),
+        &mut stage.src,
+        &mut FilePipe::new(FileSource::nothing()),
+        &mut stage.port,
+        &mut stage.pix,
+        &mut stage.out,
+    );
+    assert_eq!(rt; (status, stage.pix.bytes().len()), (9, 0));
+    Ok(())
 }
 
 /// The pipe that fails at this clock was handed its set and no further one.
