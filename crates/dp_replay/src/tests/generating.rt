@@ -1,6 +1,6 @@
 //! The command `gen` over objects in memory: frames out of a number, sent and received.
 
-use super::receiving::{CLEAR, capture, hear};
+use super::receiving::{CLEAR, Hearing, capture, hear};
 use super::sending::{CALM, Fails, Stage, TWO_LANES, USAGE, ends, status};
 use dpx_base::MemSink;
 use std::alloc::Global;
@@ -87,6 +87,25 @@ fn a_number_gives_the_capture_that_its_pixels_give(rt: HostRuntime) -> Result<()
             .as_slice()
             .starts_with(&[0, 155, 0, 0, 0, 100])
     );
+    Ok(())
+}
+
+#[test]
+fn the_capture_of_a_number_is_received_in_pieces(rt: HostRuntime) -> Result<(), Fail> {
+    let alloc = rt.alloc();
+    let mut stage = Stage::new(alloc, "", Vec::new(alloc), CALM)?;
+    stage.pix = MemSink::new(alloc, 5_405_478, Vec::new(alloc))?;
+    status(&rt, alloc, "gen 1 one", &mut stage)?;
+    let pieces = Hearing {
+        step: 4099,
+        ..CLEAR
+    };
+    let heard = hear(&rt, alloc, "recv a b", stage.pix.bytes(), pieces)?;
+    assert_eq!(rt; (heard.status, heard.records.len()), (0, 6 * 307_200));
+    let report = heard.printed.as_str();
+    assert!(rt; report.starts_with("attributes width 640 height 480 "));
+    assert!(rt; report.ends_with("\nreceived frames 1 lines 480 tail 0\n"));
+    assert_eq!(rt; report.lines().count(), 2);
     Ok(())
 }
 

@@ -66,7 +66,8 @@ pub(crate) fn hear<R: Threads + Sync>(
     );
     let mut pipe = MemPipe::new(Vec::new(alloc), Vec::new(alloc));
     let mut port = PlanPort::new(alloc)?;
-    let mut pix = MemSink::new(alloc, 4096, hearing.records.to_vec(alloc)?)?;
+    let room = capture.len().max(4096);
+    let mut pix = MemSink::new(alloc, room, hearing.records.to_vec(alloc)?)?;
     let mut out = MemSink::new(alloc, 1024, hearing.report.to_vec(alloc)?)?;
     let status = replay(
         rt,
@@ -276,6 +277,19 @@ fn damage_is_named_at_its_place(rt: HostRuntime) -> Result<(), Fail> {
         hears(&rt, rt.alloc(), "recv a b", bytes, CLEAR, (0, report, 6, 0))?;
     }
     let mut sent = capture(&rt, rt.alloc(), TWO_LANES, 8)?;
+    let mut unflagged = sent.to_vec(rt.alloc())?;
+    if let Some(flags) = unflagged.get_mut(6) {
+        *flags = 0;
+    }
+    let wanted = (0, "set 1 control\n", 6, 0);
+    hears(
+        &rt,
+        rt.alloc(),
+        "recv a b",
+        unflagged.as_slice(),
+        CLEAR,
+        wanted,
+    )?;
     // lane 1 in clock 200
     let place = 8 + 4 * 200 + 2;
     for byte in [place, place + 1] {
