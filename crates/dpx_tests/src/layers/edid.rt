@@ -1,6 +1,6 @@
 //! I2C over AUX, and what a base block says.
 
-ghost use Rattle.std.specs.Prelude.{◌<◌};
+ghost use Rattle.std.specs.Prelude.{◌<◌, ◌≤◌};
 ghost use Rattle.dpx_edid.specs.I2c.{IsValid};
 
 use dpx_edid::{EdidBad, I2c, I2cReply, encode_i2c, read_edid, read_i2c_reply};
@@ -173,12 +173,20 @@ fn the_first_fault_of_a_block_is_named(rt: HostRuntime) {
     refused(&rt, &block, Some(EdidBad::Version(0)));
 }
 
+/// The block with these bytes of a timing from this place on.
+fn with_timing(block: [u8; 128], start: usize, bytes: &[u8; 18]) -> [u8; 128]
+    requires { start ≤ 110 }
+{
+    let mut changed = block;
+    changed[start..start + 18].copy_from_slice(bytes);
+    changed
+}
+
 #[test]
 fn version_and_slots_are_those_of_their_bytes(rt: HostRuntime) {
-    let mut block = display();
-    // three places more, each byte made up for in the last one
-    block[72..90].copy_from_slice(&timing::INTERLACED);
-    block[108..126].copy_from_slice(&timing::FULL_HD);
+    // two places more, each byte made up for in the last one
+    let interlaced = with_timing(display(), 72, &timing::INTERLACED);
+    let mut block = with_timing(interlaced, 108, &timing::FULL_HD);
     let mut sum = 0u8;
     for byte in &block[..127] {
         sum = sum.wrapping_add(*byte);

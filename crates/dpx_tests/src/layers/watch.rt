@@ -124,7 +124,7 @@ impl Table {
             // Every ninth request is answered: a later training has one of those first.
             Sink::Deferring if self.used > 0 => ("aux ended", 9),
             _ => {
-                self.used += 8;
+                self.used = self.used.saturating_add(8);
                 ("aux ended", 8)
             }
         }

@@ -134,7 +134,10 @@ impl AuxPort for Script<'_> {
 
 /// A fetch with these answers fails so, after so many requests.
 fn fails(rt: &impl Abort, answers: &[&[u8]], why: I2cEnd, requests: u32) {
-    let mut port = Script { answers, asked: 0 };
+    let mut port = Script {
+        answers: &*answers,
+        asked: 0,
+    };
     let end = fetch_edid(&mut port).err().expect(rt, "a failure");
     assert_eq!(rt; (end.why, end.requests), (why, requests), "{answers:?}");
     assert_eq!(rt; port.asked(), u64::from(requests));
