@@ -182,16 +182,21 @@ fn with_timing(block: [u8; 128], start: usize, bytes: &[u8; 18]) -> [u8; 128]
     changed
 }
 
-#[test]
-fn version_and_slots_are_those_of_their_bytes(rt: HostRuntime) {
-    // two places more, each byte made up for in the last one
-    let interlaced = with_timing(display(), 72, &timing::INTERLACED);
-    let mut block = with_timing(interlaced, 108, &timing::FULL_HD);
+/// The block with the last byte that makes its sum 0.
+fn balanced(block: [u8; 128]) -> [u8; 128] {
     let mut sum = 0u8;
     for byte in &block[..127] {
         sum = sum.wrapping_add(*byte);
     }
-    block[127] = 0u8.wrapping_sub(sum);
+    let mut changed = block;
+    changed[127] = 0u8.wrapping_sub(sum);
+    changed
+}
+
+#[test]
+fn version_and_slots_are_those_of_their_bytes(rt: HostRuntime) {
+    let interlaced = with_timing(display(), 72, &timing::INTERLACED);
+    let block = balanced(with_timing(interlaced, 108, &timing::FULL_HD));
     let edid = read_edid(&block).ok().expect(&rt, "a block");
     assert_eq!(rt; (edid.version, edid.revision), (1, 4));
     let [first, second, third, fourth] = edid.slots;
