@@ -185,11 +185,11 @@ fn with_timing(block: [u8; 128], start: usize, bytes: &[u8; 18]) -> [u8; 128]
 /// The block with the last byte that makes its sum 0.
 fn balanced(block: [u8; 128]) -> [u8; 128] {
     let mut sum = 0u8;
-    for byte in &block[..127] {
-        sum = sum.wrapping_add(*byte);
+    for byte in block {
+        sum = sum.wrapping_add(byte);
     }
     let mut changed = block;
-    changed[127] = 0u8.wrapping_sub(sum);
+    changed[127] = changed[127].wrapping_sub(sum);
     changed
 }
 
