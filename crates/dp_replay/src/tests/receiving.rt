@@ -17,7 +17,7 @@ const ATTRIBUTES: &str =
     "attributes width 16 height 2 total 28 4 start 8 2 sync 4 1 polarity 0 0 mvid 54000 nvid 162000";
 
 /// How MISC0 and the depth are told of components of 8 bits.
-const EIGHT: &str = "misc0 21 depth 8";
+pub(crate) const EIGHT: &str = "misc0 21 depth 8";
 
 const ALL: &str = "received frames 2 lines 4 tail 0\n";
 
@@ -109,7 +109,7 @@ fn records(alloc: Global, count: u64) -> Result<Vec<u8>, Fail> {
 }
 
 /// So many lines of attributes, and a last line.
-fn report(alloc: Global, frames: usize, told: &str, last: &str) -> Result<String, Fail> {
+pub(crate) fn report(alloc: Global, frames: usize, told: &str, last: &str) -> Result<String, Fail> {
     let mut text = String::new(alloc);
     for _ in 0..frames {
         write!(text, "{ATTRIBUTES} {told}\n")?;

@@ -33,6 +33,12 @@ const FOUR_LANES: Link = Link {
     enhanced: true,
 };
 
+const HBR2_LANES: Link = Link {
+    rate: Rate::Hbr2,
+    lanes: Lanes::Four,
+    enhanced: true,
+};
+
 const CAPS: [u8; 16] = [
     0x12, 0x14, 0xc4, 0x81, 0, 0, 0, 0, 0, 0, 0, 0, 0, 0, 0x80, 0x00,
 ];
@@ -69,6 +75,16 @@ fn dead() -> Channel {
     channel
 }
 
+/// A channel whose lane 3 fails clock recovery at HBR3.
+fn slower() -> Channel {
+    but_for(Rate::Hbr3, 3, Cell::new(false, true, 0, 0))
+}
+
+/// A channel whose lane 2 fails equalisation at HBR2.
+fn halved() -> Channel {
+    but_for(Rate::Hbr2, 2, Cell::new(true, false, 0, 0))
+}
+
 fn script(alloc: Global, texts: &[&[u8]]) -> Result<SinkPlan, AllocError> {
     let mut answers = Vec::new(alloc);
     for bytes in texts {
@@ -80,6 +96,13 @@ fn script(alloc: Global, texts: &[&[u8]]) -> Result<SinkPlan, AllocError> {
 }
 
 const BLOCK: [u8; 17] = [0, 0x12, 0x06, 0x81, 0, 0, 0, 0, 0, 0, 0, 0, 0, 0, 0, 0, 0];
+
+/// Capabilities with a number of lanes that no link has.
+fn three_lanes() -> [u8; 17] {
+    let mut block = BLOCK;
+    block[3] = 0x83;
+    block
+}
 
 const DONE: [u8; 1] = [0];
 
@@ -144,9 +167,8 @@ fn histories_are_judged_with_their_own_ends(rt: HostRuntime) -> Result<(), Fail>
         model(0, loud),
         Ending::Trained(ONE_LANE),
     );
-    let slower = but_for(Rate::Hbr3, 3, Cell::new(false, true, 0, 0));
     let lower = Ending::Trained(link(Rate::Hbr2, Lanes::Four));
-    judged(&rt, &mut port, FOUR_LANES, model(0, slower), lower);
+    judged(&rt, &mut port, FOUR_LANES, model(0, slower()), lower);
     judged(
         &rt,
         &mut port,
@@ -188,14 +210,10 @@ fn histories_of_scripts_are_judged_with_their_own_ends(rt: HostRuntime) -> Resul
         never_aligned(rt.alloc())?,
         Ending::NotTrained,
     );
-    let mut three_lanes = BLOCK;
-    three_lanes[3] = 0x83;
-    let refused = script(rt.alloc(), &[&three_lanes])?;
+    let refused = script(rt.alloc(), &[&three_lanes()])?;
     judged(&rt, &mut port, ONE_LANE, refused, Ending::CapsRefused);
-    let halved = but_for(Rate::Hbr2, 2, Cell::new(true, false, 0, 0));
-    let top = link(Rate::Hbr2, Lanes::Four);
     let fewer = Ending::Trained(link(Rate::Hbr2, Lanes::Two));
-    judged(&rt, &mut port, top, model(0, halved), fewer);
+    judged(&rt, &mut port, HBR2_LANES, model(0, halved()), fewer);
     Ok(())
 }
 

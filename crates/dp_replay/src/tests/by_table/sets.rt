@@ -3,21 +3,21 @@
 
 use super::shape::{Plan, Shape, scaled};
 
-const BS: u16 = 0x1bc;
+pub(super) const BS: u16 = 0x1bc;
 
-const BE: u16 = 0x1fb;
+pub(super) const BE: u16 = 0x1fb;
 
 pub(super) const SR: u16 = 0x11c;
 
-const SS: u16 = 0x15c;
+pub(super) const SS: u16 = 0x15c;
 
-const SE: u16 = 0x1fd;
+pub(super) const SE: u16 = 0x1fd;
 
-const FS: u16 = 0x1fe;
+pub(super) const FS: u16 = 0x1fe;
 
 const FE: u16 = 0x1f7;
 
-const BF: u16 = 0x17c;
+pub(super) const BF: u16 = 0x17c;
 
 /// The table of clocks, line by line.
 #[derive(Clone, Copy, PartialEq, Eq)]

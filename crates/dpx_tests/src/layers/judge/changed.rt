@@ -1,7 +1,10 @@
 //! Histories with one entry changed, against a plain search: a training of the same link over the list's own answers,
 //! whose history is compared with the list.
 
-use super::{FOUR_LANES, ONE_LANE, but_for, model, never_aligned, trains};
+use super::{
+    FOUR_LANES, HBR2_LANES, ONE_LANE, but_for, dead, halved, model, never_aligned, script, slower,
+    three_lanes, trains,
+};
 use dpx_base::{Answer, Bytes20, Entry, Link, Rate};
 use dpx_dpcd::{AnswerList, Cell, Channel, SinkPlan};
 use dpx_judge::{Ending, Verdict, judge_all};
@@ -205,10 +208,31 @@ fn changes(
 }
 
 #[test]
-fn changed_histories_are_judged_as_a_training_finds(rt: HostRuntime) -> Result<(), Fail> {
+fn changed_trainings_are_judged_as_a_training_finds(rt: HostRuntime) -> Result<(), Fail> {
     let alloc = rt.alloc();
     changes(&rt, alloc, FOUR_LANES, model(0, Channel::perfect()), false)?;
-    changes(&rt, alloc, ONE_LANE, never_aligned(alloc)?, false)?;
     let loud = but_for(Rate::Rbr, 0, Cell::new(true, true, 2, 2));
-    changes(&rt, alloc, ONE_LANE, model(2, loud), true)
+    changes(&rt, alloc, ONE_LANE, model(2, loud), true)?;
+    changes(&rt, alloc, FOUR_LANES, model(7, Channel::perfect()), true)?;
+    changes(&rt, alloc, FOUR_LANES, model(8, Channel::perfect()), true)
+}
+
+#[test]
+fn changed_fallbacks_are_judged_as_a_training_finds(rt: HostRuntime) -> Result<(), Fail> {
+    let alloc = rt.alloc();
+    changes(&rt, alloc, FOUR_LANES, model(0, slower()), false)?;
+    changes(&rt, alloc, HBR2_LANES, model(0, halved()), false)?;
+    changes(&rt, alloc, FOUR_LANES, model(0, dead()), false)
+}
+
+#[test]
+fn changed_scripts_are_judged_as_a_training_finds(rt: HostRuntime) -> Result<(), Fail> {
+    let alloc = rt.alloc();
+    changes(&rt, alloc, ONE_LANE, never_aligned(alloc)?, false)?;
+    let refused = three_lanes();
+    let scripts: [&[&[u8]]; 4] = [&[], &[&[0x10]], &[&[0, 0x12]], &[&refused]];
+    for texts in scripts {
+        changes(&rt, alloc, ONE_LANE, script(alloc, texts)?, true)?;
+    }
+    Ok(())
 }
