@@ -211,8 +211,10 @@ fn changes(
 fn changed_trainings_are_judged_as_a_training_finds(rt: HostRuntime) -> Result<(), Fail> {
     let alloc = rt.alloc();
     changes(&rt, alloc, FOUR_LANES, model(0, Channel::perfect()), false)?;
-    let loud = but_for(Rate::Rbr, 0, Cell::new(true, true, 2, 2));
-    changes(&rt, alloc, ONE_LANE, model(2, loud), true)?;
+    for defers in [0, 2] {
+        let loud = but_for(Rate::Rbr, 0, Cell::new(true, true, 2, 2));
+        changes(&rt, alloc, ONE_LANE, model(defers, loud), defers > 0)?;
+    }
     changes(&rt, alloc, FOUR_LANES, model(7, Channel::perfect()), true)?;
     changes(&rt, alloc, FOUR_LANES, model(8, Channel::perfect()), true)
 }
