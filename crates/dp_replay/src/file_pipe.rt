@@ -100,7 +100,7 @@ impl Pipe for FilePipe {
 #[cfg(test)]
 mod tests {
     use super::*;
-    use dpx_base::{Depth, Lanes, ModeField, Rate, RawMode, Sym};
+    use dpx_base::{Depth, Lanes, ModeField, Pixel, Rate, RawMode, Sym, write_pixel};
     use std::fs;
     use std::process::Abort;
     use std::test::Fail;
@@ -111,9 +111,9 @@ mod tests {
         enhanced: true,
     };
 
-    /// 16 × 2 pixels of 28 × 4, three symbol clocks a tick.
-    fn small_mode() -> Result<Mode, ModeField>
-        ensures { IfOk result (λ mode. (mode.clock_khz ≡ 54000) × (mode.depth ≡ Eight)) }
+    /// 16 × 2 pixels of 28 × 4, at this pixel clock.
+    fn small_mode(clock_khz: u32) -> Result<Mode, ModeField>
+        ensures { IfOk result (λ mode. (mode.clock_khz ≡ clock_khz) × (mode.depth ≡ Eight)) }
     {
         Mode::read(&RawMode {
             width: 16,
@@ -126,14 +126,20 @@ mod tests {
             vstart: 2,
             hsp: false,
             vsp: false,
-            clock_khz: 54_000,
+            clock_khz,
             depth: Depth::Eight,
         })
     }
 
+    /// Three symbol clocks a tick.
+    const SLOW: u32 = 54_000;
+
+    /// Two ticks a symbol clock.
+    const FAST: u32 = 324_000;
+
     #[test]
     fn a_pipe_over_no_file_does_not_begin(rt: HostRuntime) -> Result<(), Fail> {
-        let mode = small_mode()?;
+        let mode = small_mode(SLOW)?;
         for name in ["no folder/frames.pixels", ""] {
             let mut pipe = FilePipe::new(FileSource::open(&rt, name));
             let begun = pipe.begin(rt.alloc(), &mode, LINK, 2, 699);
@@ -159,12 +165,68 @@ mod tests {
 
     #[test]
     fn a_record_and_a_half_are_one_pixel(rt: HostRuntime) -> Result<(), Fail> {
-        let mode = small_mode()?;
+        let mode = small_mode(SLOW)?;
         fs::write(&rt, "frames.pixels", &[0; 9])?;
         let mut pipe = FilePipe::new(FileSource::open(&rt, "frames.pixels"));
         pipe.begin(rt.alloc(), &mode, LINK, 2, 699)?;
         // tick by tick the pixels come as the last of each third clock; the first in tick 12 of line 2
         assert_eq!(rt; first_end(&mut pipe, 699), (209, Some(PipeEnd::Ended(1))));
+        Ok(())
+    }
+
+    #[test]
+    fn whole_records_are_counted_where_a_clock_wants_two(rt: HostRuntime) -> Result<(), Fail> {
+        let mode = small_mode(FAST)?;
+        fs::write(&rt, "three.pixels", &[0; 18])?;
+        let mut pipe = FilePipe::new(FileSource::open(&rt, "three.pixels"));
+        pipe.begin(rt.alloc(), &mode, LINK, 2, 699)?;
+        // the first pixels come in ticks 12 and 13 of line 2
+        assert_eq!(rt; first_end(&mut pipe, 699), (35, Some(PipeEnd::Ended(3))));
+        Ok(())
+    }
+
+    /// A pixel that tells its number.
+    fn numbered(number: u16) -> Pixel {
+        Pixel {
+            r: number,
+            g: number ^ 0x5555,
+            b: number ^ 0x00ff,
+        }
+    }
+
+    /// The pixels of these clocks are numbered in order, from 0 on; this is how many they are.
+    fn in_order(rt: &impl Abort, pipe: &mut FilePipe, clocks: u64) -> u16
+        requires begun { IsSome pipe.old.begun }
+        requires kept { pipe.old.refused ≡ false }
+        requires left { pipe.old.clock + clocks ≤ pipe.old.clocks }
+    {
+        let fill = LaneSet::on_each(Lanes::Two, Sym::data(0));
+        let mut number = 0u16;
+        for _clock in 0..clocks {
+            let Ok(arrivals) = pipe.clock(&fill) else {
+                return number;
+            };
+            for place in 0..arrivals.len() {
+                assert_eq!(rt; arrivals.get(place), numbered(number));
+                number = number.wrapping_add(1);
+            }
+        }
+        number
+    }
+
+    #[test]
+    fn pixels_come_in_the_order_of_their_records(rt: HostRuntime) -> Result<(), Fail> {
+        let mut bytes = Vec::new(rt.alloc());
+        for number in 0..1280u16 {
+            bytes.extend_from_slice(&write_pixel(numbered(number)))?;
+        }
+        fs::write(&rt, "numbered.pixels", bytes.as_slice())?;
+        for clock_khz in [SLOW, FAST] {
+            let mode = small_mode(clock_khz)?;
+            let mut pipe = FilePipe::new(FileSource::open(&rt, "numbered.pixels"));
+            pipe.begin(rt.alloc(), &mode, LINK, 40, 13_440)?;
+            assert_eq!(rt; in_order(&rt, &mut pipe, 13_440), 1280);
+        }
         Ok(())
     }
 }

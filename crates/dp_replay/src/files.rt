@@ -1,3 +1,6 @@
+ghost use Rattle.std.specs.Prelude.{◌≡◌, ℕ, true};
+ghost use Rattle.dpx_cli.specs.Commands.{IsGen};
+
 use crate::file_pipe::FilePipe;
 use crate::file_sink::FileSink;
 use crate::file_source::FileSource;
@@ -22,8 +25,10 @@ impl CommandFiles {
         }
     }
 
-    /// Opens the files in the order of the words.
-    pub fn open<R: Files<File = File>>(rt: &R, command: &Command) -> CommandFiles {
+    /// Opens the files in the order of the words. Where frames are made out of a number, the capture is kept nowhere.
+    pub fn open<R: Files<File = File>>(rt: &R, command: &Command) -> CommandFiles
+        ensures discards { (seed : ℕ) → IsGen seed command.now → result.pix.discards ≡ true }
+    {
         match command {
             Command::Train { job }
             | Command::Edid { job }

@@ -47,7 +47,7 @@ fn occupy_streams<R: Files<File = File>>(files: &R) -> [Option<File>; 3] {
     [(), (), ()].map(|()| File::open(files, "/").ok())
 }
 
-/// Opens the files that the words name, and gives the command's status.
+/// Does what the words of the command line say, and gives the status.
 fn run<R: Env + Files<File = File> + AllocGlobal + Threads + Sync>(
     rt: &R,
     out: &mut FileSink,
@@ -56,8 +56,20 @@ fn run<R: Env + Files<File = File> + AllocGlobal + Threads + Sync>(
     ensures writes_are_calm { IfOk result (λ status. status ≢ 8 → out.new.faults ≡ out.old.faults) }
 {
     let words = words(rt)?;
+    run_words(rt, words.as_slice(), out)
+}
+
+/// Opens the files that the words name, and gives the command's status.
+fn run_words<R: Files<File = File> + AllocGlobal + Threads + Sync>(
+    rt: &R,
+    words: &[String],
+    out: &mut FileSink,
+) -> Result<u8, Memory>
+    ensures statuses { IfOk result IsExitStatus }
+    ensures writes_are_calm { IfOk result (λ status. status ≢ 8 → out.new.faults ≡ out.old.faults) }
+{
     let mut aux = PlanPort::new(rt.alloc())?;
-    let mut files = match read_words(rt.alloc(), words.as_slice()) {
+    let mut files = match read_words(rt.alloc(), words) {
         Ok(command) => CommandFiles::open(rt, &command),
         Err(WordsEnd::Usage) => CommandFiles::none(),
         Err(WordsEnd::Memory) => return Err(Memory),
@@ -65,7 +77,7 @@ fn run<R: Env + Files<File = File> + AllocGlobal + Threads + Sync>(
     Ok(replay(
         rt,
         rt.alloc(),
-        words.as_slice(),
+        words,
         &mut files.src,
         &mut files.pipe,
         &mut aux,

@@ -18,6 +18,7 @@ mod gate;
 mod generating;
 mod histories;
 mod judging;
+mod program;
 mod receive_faults;
 mod receiving;
 mod reports;

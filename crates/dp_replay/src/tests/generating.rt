@@ -11,7 +11,7 @@ use std::thread::Threads;
 /// A command, the bytes of its capture, and its report.
 type Generated = (&'static str, usize, &'static str);
 
-const FOUR: &str = "gen seed 4 mode 0 frames 2\n\
+pub(crate) const FOUR: &str = "gen seed 4 mode 0 frames 2\n\
     plan symbols 24 n 1296000 m 2592000 unit 32 delay 25 end 40 bound 20\n\
     sent frames 2 lines 4 clocks 699\n\
     received frames 2 lines 4 tail 0\n\

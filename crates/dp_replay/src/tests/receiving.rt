@@ -19,7 +19,7 @@ const ATTRIBUTES: &str =
 /// How MISC0 and the depth are told of components of 8 bits.
 pub(crate) const EIGHT: &str = "misc0 21 depth 8";
 
-const ALL: &str = "received frames 2 lines 4 tail 0\n";
+pub(crate) const ALL: &str = "received frames 2 lines 4 tail 0\n";
 
 /// Why a test ends that cuts a capture where it has no byte.
 const SHORT: &str = "the capture is too short";

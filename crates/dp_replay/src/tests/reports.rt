@@ -1,13 +1,10 @@
+use super::sending::USAGE;
 use super::{CALM, ends, modelled, run, scripted};
 use dpx_sinkmodel::PlanPort;
 use std::alloc::Global;
 use std::process::Abort;
 use std::test::Fail;
 use std::thread::Threads;
-
-const USAGE: &str = "usage: dp_replay train JOB | send JOB PIXELS CAPTURE [one|lanes] \
-    | run JOB PIXELS CAPTURE [one|lanes] | recv CAPTURE PIXELS [one|lanes] | gen SEED [one|lanes] \
-    | edid JOB | watch JOB | judge JOB\n";
 
 /// These words have no reading.
 fn is_usage<R: Abort + Threads + Sync>(rt: &R, alloc: Global, words: &str) -> Result<(), Fail> {

@@ -27,7 +27,8 @@ pub(crate) const TWO_FRAMES: &str = r#""width":16,"height":2,"htotal":28,"vtotal
 
 pub(crate) const PIXELS: u64 = 64;
 
-const PLAN: &str = "plan symbols 24 n 1296000 m 2592000 unit 32 delay 25 end 40 bound 20\n";
+pub(crate) const PLAN: &str =
+    "plan symbols 24 n 1296000 m 2592000 unit 32 delay 25 end 40 bound 20\n";
 
 /// A job with these members of its link and its mode.
 pub(crate) fn job(alloc: Global, link: &str, mode: &str, depth: u8) -> Result<String, Fail> {
