@@ -102,12 +102,14 @@ mod tests {
     use super::*;
     use dpx_base::{Depth, Lanes, ModeField, Pixel, Rate, RawMode, Sym, write_pixel};
     use std::fs;
+    use std::fs::File;
     use std::process::Abort;
+    use std::rt::Files;
     use std::test::Fail;
 
     const LINK: Link = Link {
         rate: Rate::Rbr,
-        lanes: Lanes::Two,
+        lanes: Lanes::Four,
         enhanced: true,
     };
 
@@ -134,8 +136,8 @@ mod tests {
     /// Three symbol clocks a tick.
     const SLOW: u32 = 54_000;
 
-    /// Two ticks a symbol clock.
-    const FAST: u32 = 324_000;
+    /// Four ticks in three symbol clocks: one, one, two.
+    const FAST: u32 = 216_000;
 
     #[test]
     fn a_pipe_over_no_file_does_not_begin(rt: HostRuntime) -> Result<(), Fail> {
@@ -148,13 +150,31 @@ mod tests {
         Ok(())
     }
 
+    /// A pipe over a file of these bytes, with all clocks of forty frames before it.
+    fn begun<R: AllocGlobal + Files<File = File>>(
+        rt: &R,
+        bytes: &[u8],
+        clock_khz: u32,
+    ) -> Result<FilePipe, Fail>
+        requires { clock_khz ≤ 216000 }
+        ensures begun { IfOk result (λ pipe. IsSome pipe.begun) }
+        ensures kept { IfOk result (λ pipe. pipe.refused ≡ false) }
+        ensures clocks { IfOk result (λ pipe. (pipe.clock ≡ 0) × (pipe.clocks ≡ 13440)) }
+    {
+        fs::write(rt, "frames.pixels", bytes)?;
+        let mode = small_mode(clock_khz)?;
+        let mut pipe = FilePipe::new(FileSource::open(rt, "frames.pixels"));
+        pipe.begin(rt.alloc(), &mode, LINK, 40, 13_440)?;
+        Ok(pipe)
+    }
+
     /// How many of the clocks go on, and why the next does not.
     fn first_end(pipe: &mut FilePipe, clocks: u64) -> (u64, Option<PipeEnd>)
         requires begun { IsSome pipe.old.begun }
         requires kept { pipe.old.refused ≡ false }
         requires left { pipe.old.clock + clocks ≤ pipe.old.clocks }
     {
-        let fill = LaneSet::on_each(Lanes::Two, Sym::data(0));
+        let fill = LaneSet::on_each(Lanes::Four, Sym::data(0));
         for clock in 0..clocks {
             if let Err(end) = pipe.clock(&fill) {
                 return (clock, Some(end));
@@ -164,24 +184,16 @@ mod tests {
     }
 
     #[test]
-    fn a_record_and_a_half_are_one_pixel(rt: HostRuntime) -> Result<(), Fail> {
-        let mode = small_mode(SLOW)?;
-        fs::write(&rt, "frames.pixels", &[0; 9])?;
-        let mut pipe = FilePipe::new(FileSource::open(&rt, "frames.pixels"));
-        pipe.begin(rt.alloc(), &mode, LINK, 2, 699)?;
+    fn whole_records_are_counted(rt: HostRuntime) -> Result<(), Fail> {
         // tick by tick the pixels come as the last of each third clock; the first in tick 12 of line 2
-        assert_eq!(rt; first_end(&mut pipe, 699), (209, Some(PipeEnd::Ended(1))));
-        Ok(())
-    }
-
-    #[test]
-    fn whole_records_are_counted_where_a_clock_wants_two(rt: HostRuntime) -> Result<(), Fail> {
-        let mode = small_mode(FAST)?;
-        fs::write(&rt, "three.pixels", &[0; 18])?;
-        let mut pipe = FilePipe::new(FileSource::open(&rt, "three.pixels"));
-        pipe.begin(rt.alloc(), &mode, LINK, 2, 699)?;
-        // the first pixels come in ticks 12 and 13 of line 2
-        assert_eq!(rt; first_end(&mut pipe, 699), (35, Some(PipeEnd::Ended(3))));
+        let mut pipe = begun(&rt, &[0; 9], SLOW)?;
+        assert_eq!(rt;
+            first_end(&mut pipe, 13_440),
+            (209, Some(PipeEnd::Ended(1)))
+        );
+        // tick 68 stands in clock 51, tick 69 in clock 52, and two in clock 53
+        let mut pipe = begun(&rt, &[0; 18], FAST)?;
+        assert_eq!(rt; first_end(&mut pipe, 13_440), (53, Some(PipeEnd::Ended(3))));
         Ok(())
     }
 
@@ -200,14 +212,14 @@ mod tests {
         requires kept { pipe.old.refused ≡ false }
         requires left { pipe.old.clock + clocks ≤ pipe.old.clocks }
     {
-        let fill = LaneSet::on_each(Lanes::Two, Sym::data(0));
+        let fill = LaneSet::on_each(Lanes::Four, Sym::data(0));
         let mut number = 0u16;
-        for _clock in 0..clocks {
+        for clock in 0..clocks {
             let Ok(arrivals) = pipe.clock(&fill) else {
                 return number;
             };
             for place in 0..arrivals.len() {
-                assert_eq!(rt; arrivals.get(place), numbered(number));
+                assert_eq!(rt; arrivals.get(place), numbered(number), "clock {clock}");
                 number = number.wrapping_add(1);
             }
         }
@@ -220,13 +232,10 @@ mod tests {
         for number in 0..1280u16 {
             bytes.extend_from_slice(&write_pixel(numbered(number)))?;
         }
-        fs::write(&rt, "numbered.pixels", bytes.as_slice())?;
-        for clock_khz in [SLOW, FAST] {
-            let mode = small_mode(clock_khz)?;
-            let mut pipe = FilePipe::new(FileSource::open(&rt, "numbered.pixels"));
-            pipe.begin(rt.alloc(), &mode, LINK, 40, 13_440)?;
-            assert_eq!(rt; in_order(&rt, &mut pipe, 13_440), 1280);
-        }
+        let mut slow = begun(&rt, bytes.as_slice(), SLOW)?;
+        assert_eq!(rt; in_order(&rt, &mut slow, 13_440), 1280);
+        let mut fast = begun(&rt, bytes.as_slice(), FAST)?;
+        assert_eq!(rt; in_order(&rt, &mut fast, 13_440), 1280);
         Ok(())
     }
 }
