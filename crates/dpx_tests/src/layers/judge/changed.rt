@@ -231,10 +231,14 @@ fn changed_fallbacks_are_judged_as_a_training_finds(rt: HostRuntime) -> Result<(
 fn changed_scripts_are_judged_as_a_training_finds(rt: HostRuntime) -> Result<(), Fail> {
     let alloc = rt.alloc();
     changes(&rt, alloc, ONE_LANE, never_aligned(alloc)?, false)?;
-    let refused = three_lanes();
-    let scripts: [&[&[u8]]; 4] = [&[], &[&[0x10]], &[&[0, 0x12]], &[&refused]];
-    for texts in scripts {
-        changes(&rt, alloc, ONE_LANE, script(alloc, texts)?, true)?;
-    }
-    Ok(())
+    changes(&rt, alloc, ONE_LANE, script(alloc, &[])?, true)?;
+    changes(&rt, alloc, ONE_LANE, script(alloc, &[&[0x10]])?, true)?;
+    changes(&rt, alloc, ONE_LANE, script(alloc, &[&[0, 0x12]])?, true)?;
+    changes(
+        &rt,
+        alloc,
+        ONE_LANE,
+        script(alloc, &[&three_lanes()])?,
+        true,
+    )
 }
