@@ -1,4 +1,6 @@
 pub mod Absorbed
+pub mod Columns
+pub mod InRows
 pub mod Next
 pub mod Packed
 pub mod Ring

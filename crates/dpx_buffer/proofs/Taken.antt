@@ -123,7 +123,7 @@ taken_reached b bytes lanes reached same each = record {
   in_range = reached.in_range;
 }
 
-list_is : (xs : List ℕ) (f : ℕ → ℕ) (a : ℕ) → ((i : ℕ) → i < length xs → get_or xs i 0 ≡ f (a + i))
+pub list_is : (xs : List ℕ) (f : ℕ → ℕ) (a : ℕ) → ((i : ℕ) → i < length xs → get_or xs i 0 ≡ f (a + i))
     → xs ≡ span f a (length xs)
 list_is [] f a h = sym (span-none f a)
 list_is (x ∷ xs) f a h =

@@ -12,8 +12,8 @@ depth_in (Twelve lanes) = 12
 depth_in (Sixteen lanes) = 16
 
 abbrev pub lanes_in : AnyLanes → List LaneState
-lanes_in (Six lanes) = lanes.items
-lanes_in (Eight lanes) = lanes.items
-lanes_in (Ten lanes) = lanes.items
-lanes_in (Twelve lanes) = lanes.items
-lanes_in (Sixteen lanes) = lanes.items
+lanes_in (Six lanes) = lanes
+lanes_in (Eight lanes) = lanes
+lanes_in (Ten lanes) = lanes
+lanes_in (Twelve lanes) = lanes
+lanes_in (Sixteen lanes) = lanes

@@ -8,33 +8,33 @@ ghost use Rattle.dpx_buffer.specs.Lane.{HasRoomToFinish};
 ghost use Rattle.dpx_buffer.specs.Seen.{depth_in, lanes_in};
 
 use crate::group::Group;
-use crate::lane::Lane;
-use crate::lanes::{empty_lanes, finish_lines, push_group, take_each};
+use crate::packed_lanes::PackedLanes;
 use dpx_base::{Depth, LaneBytes, Memory};
 use std::alloc::Global;
 
 /// The lanes of a depth.
 #[derive(Drop)]
 pub(crate) enum AnyLanes {
-    Six(Vec<Lane<6>>),
-    Eight(Vec<Lane<8>>),
-    Ten(Vec<Lane<10>>),
-    Twelve(Vec<Lane<12>>),
-    Sixteen(Vec<Lane<16>>),
+    Six(PackedLanes<6>),
+    Eight(PackedLanes<8>),
+    Ten(PackedLanes<10>),
+    Twelve(PackedLanes<12>),
+    Sixteen(PackedLanes<16>),
 }
 
 impl AnyLanes {
     /// Lanes on which nothing waits.
     pub(crate) fn new(alloc: Global, depth: Depth, count: u8) -> Result<AnyLanes, Memory>
+        requires { (1 ≤ count) × (count ≤ 4) }
         ensures depth { IfOk result (λ lanes. depth_in lanes ≡ depth_bits depth) }
         ensures empty { IfOk result (λ lanes. lanes_in lanes ≡ replicate count empty_lane) }
     {
         match depth {
-            Depth::Six => Ok(AnyLanes::Six(empty_lanes(alloc, count)?)),
-            Depth::Eight => Ok(AnyLanes::Eight(empty_lanes(alloc, count)?)),
-            Depth::Ten => Ok(AnyLanes::Ten(empty_lanes(alloc, count)?)),
-            Depth::Twelve => Ok(AnyLanes::Twelve(empty_lanes(alloc, count)?)),
-            Depth::Sixteen => Ok(AnyLanes::Sixteen(empty_lanes(alloc, count)?)),
+            Depth::Six => Ok(AnyLanes::Six(PackedLanes::new(alloc, count)?)),
+            Depth::Eight => Ok(AnyLanes::Eight(PackedLanes::new(alloc, count)?)),
+            Depth::Ten => Ok(AnyLanes::Ten(PackedLanes::new(alloc, count)?)),
+            Depth::Twelve => Ok(AnyLanes::Twelve(PackedLanes::new(alloc, count)?)),
+            Depth::Sixteen => Ok(AnyLanes::Sixteen(PackedLanes::new(alloc, count)?)),
         }
     }
 
@@ -51,11 +51,11 @@ impl AnyLanes {
             (lane_of (lanes_in self.old) l) (lane_of (lanes_in self.new) l) }
     {
         match self {
-            AnyLanes::Six(lanes) => push_group(lanes, group),
-            AnyLanes::Eight(lanes) => push_group(lanes, group),
-            AnyLanes::Ten(lanes) => push_group(lanes, group),
-            AnyLanes::Twelve(lanes) => push_group(lanes, group),
-            AnyLanes::Sixteen(lanes) => push_group(lanes, group),
+            AnyLanes::Six(lanes) => lanes.push_group(group),
+            AnyLanes::Eight(lanes) => lanes.push_group(group),
+            AnyLanes::Ten(lanes) => lanes.push_group(group),
+            AnyLanes::Twelve(lanes) => lanes.push_group(group),
+            AnyLanes::Sixteen(lanes) => lanes.push_group(group),
         }
     }
 
@@ -69,11 +69,11 @@ impl AnyLanes {
             (lane_of (lanes_in self.old) l) (lane_of (lanes_in self.new) l) }
     {
         match self {
-            AnyLanes::Six(lanes) => finish_lines(lanes),
-            AnyLanes::Eight(lanes) => finish_lines(lanes),
-            AnyLanes::Ten(lanes) => finish_lines(lanes),
-            AnyLanes::Twelve(lanes) => finish_lines(lanes),
-            AnyLanes::Sixteen(lanes) => finish_lines(lanes),
+            AnyLanes::Six(lanes) => lanes.finish_lines(),
+            AnyLanes::Eight(lanes) => lanes.finish_lines(),
+            AnyLanes::Ten(lanes) => lanes.finish_lines(),
+            AnyLanes::Twelve(lanes) => lanes.finish_lines(),
+            AnyLanes::Sixteen(lanes) => lanes.finish_lines(),
         }
     }
 
@@ -84,11 +84,11 @@ impl AnyLanes {
         ensures few { result ≤ ring_capacity }
     {
         match self {
-            AnyLanes::Six(lanes) => lanes[0].len(),
-            AnyLanes::Eight(lanes) => lanes[0].len(),
-            AnyLanes::Ten(lanes) => lanes[0].len(),
-            AnyLanes::Twelve(lanes) => lanes[0].len(),
-            AnyLanes::Sixteen(lanes) => lanes[0].len(),
+            AnyLanes::Six(lanes) => lanes.waiting(),
+            AnyLanes::Eight(lanes) => lanes.waiting(),
+            AnyLanes::Ten(lanes) => lanes.waiting(),
+            AnyLanes::Twelve(lanes) => lanes.waiting(),
+            AnyLanes::Sixteen(lanes) => lanes.waiting(),
         }
     }
 
@@ -104,11 +104,11 @@ impl AnyLanes {
             → IsTaken (lane_of (lanes_in self.old) l) (slice_index_or result l 0) (lane_of (lanes_in self.new) l) }
     {
         match self {
-            AnyLanes::Six(lanes) => take_each(lanes),
-            AnyLanes::Eight(lanes) => take_each(lanes),
-            AnyLanes::Ten(lanes) => take_each(lanes),
-            AnyLanes::Twelve(lanes) => take_each(lanes),
-            AnyLanes::Sixteen(lanes) => take_each(lanes),
+            AnyLanes::Six(lanes) => lanes.take_each(),
+            AnyLanes::Eight(lanes) => lanes.take_each(),
+            AnyLanes::Ten(lanes) => lanes.take_each(),
+            AnyLanes::Twelve(lanes) => lanes.take_each(),
+            AnyLanes::Sixteen(lanes) => lanes.take_each(),
         }
     }
 }
