@@ -1,13 +1,14 @@
 -- Lanes whose bytes wait in rows.
 use Rattle.std.proofs.Common.{◌≡◌, ℕ, zero, suc, ◌<◌, ◌≤◌, ◌+◌, ◌-◌, ◌*◌, List, [], ◌∷◌, ◌++◌, length, take, drop}
-use Rattle.std.proofs.Common.{sym, ap, arith, ◌∙◌, ◌⊎◌, inl, inr, All, replicate, slice_index_or, refl, length-append, slice_get, Some, None}
+use Rattle.std.proofs.Common.{sym, ap, arith, ◌∙◌, ◌⊎◌, inl, inr, All, replicate, slice_index_or, refl, length-append}
+use Rattle.std.proofs.Common.{slice_get, Some, None}
 use Rattle.std.proofs.lemmas.List.{map-append, length-map, length-take, length-drop, length-replicate, get_or-take}
 use Rattle.std.proofs.lemmas.List.{get_or-drop}
 use Rattle.std.proofs.lemmas.Option.{slice_get_within, get_or_from_slice_get, none-some}
 use Rattle.std.proofs.lemmas.List.Elements.{All-append, All-drop}
 use Rattle.dpx_pack.specs.Bits.{padding}
 use Rattle.dpx_pack.proofs.Spans.{span-none, span-more, length-span, get_or-span, map_more}
-use Rattle.dpx_buffer.specs.Lane.{LaneState, Packs, IsTaken, HasRoomFor, HasRoomToFinish, lane_of, empty_lane, ring_capacity}
+use Rattle.dpx_buffer.specs.Lane.{Packs, IsTaken, HasRoomFor, HasRoomToFinish, lane_of, empty_lane, ring_capacity}
 use Rattle.dpx_buffer.specs.Rows.{AreEven, IsInRows, Joins, bits_of, column, lane_bytes, lanes_from, rows_of}
 use Rattle.dpx_buffer.proofs.Columns.{even_after, joins_count}
 

@@ -40,7 +40,8 @@ column rows lane = map (λ row. slice_index_or row lane 0) rows
 -- the lanes from one on, and what of the rows waits on them
 unfoldable pub lanes_from : (lane : ℕ) → (lanes rows : List (List ℕ)) → List LaneState
 lanes_from lane [] rows = []
-lanes_from lane (bits ∷ more) rows = record { bits = bits; waiting = column rows lane } ∷ lanes_from (lane + 1) more rows
+lanes_from lane (bits ∷ more) rows =
+    record { bits = bits; waiting = column rows lane } ∷ lanes_from (lane + 1) more rows
 
 -- what lanes keep: their bits, and rows that fit
 pub record IsInRows (lanes rows : List (List ℕ)) (capacity : ℕ) : Type 0 where

@@ -1,4 +1,4 @@
-ghost use Rattle.std.specs.Prelude.{◌≡◌, ◌<◌, ◌≤◌, ◌+◌, ◌*◌, ℕ, [], length, replicate, slice_index_or, IfOk};
+ghost use Rattle.std.specs.Prelude.{◌≡◌, ◌<◌, ◌≤◌, ◌*◌, ℕ, [], length, replicate, slice_index_or, IfOk};
 ghost use Rattle.circular_buffer.specs.Buffer.{buffer};
 ghost use Rattle.dpx_base.specs.Sets.{black};
 ghost use Rattle.dpx_base.specs.Unpacking.{InRange};
@@ -14,8 +14,8 @@ use dpx_pack::Packer;
 use std::alloc::Global;
 use std::marker::Model;
 
-/// The packers of the lanes, and the bytes that wait, in rows: as many wait on each lane. `C` is the number of bits of a
-/// component.
+/// The packers of the lanes, and the bytes that wait, in rows: as many wait on each lane. `C` is the number of bits of
+/// a component.
 #[derive(Drop)]
 pub(crate) struct PackedLanes<const C: usize> {
     packers: Vec<Packer<C>>,

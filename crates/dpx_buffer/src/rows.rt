@@ -1,4 +1,4 @@
-ghost use Rattle.std.specs.Prelude.{◌≡◌, ◌<◌, ◌≤◌, ◌+◌, ◌*◌, ◌++◌, ℕ, [], length, slice_index_or};
+ghost use Rattle.std.specs.Prelude.{◌≡◌, ◌<◌, ◌≤◌, ◌+◌, ◌*◌, ◌++◌, ℕ, length, slice_index_or};
 ghost use Rattle.dpx_base.specs.Sets.{black};
 ghost use Rattle.dpx_base.specs.Unpacking.{InRange};
 ghost use Rattle.dpx_pack.specs.Bits.{bits_of_pixel, padding};
@@ -66,7 +66,7 @@ pub(crate) fn pack_rows<const C: usize>(
     count
 }
 
-/// Ends a line on a lane, and puts its last byte, if bits are left, into the first row. This is how many bytes that are.
+/// Ends a line on a lane, and puts its last byte, if bits are left, into the first row. This is how many they are.
 fn finish_column<const C: usize>(packer: &mut Packer<C>, rows: &mut [u8], lane: usize) -> usize
     requires depth { (6 ≤ C) × (C ≤ 16) }
     requires short { length packer.old < 8 }

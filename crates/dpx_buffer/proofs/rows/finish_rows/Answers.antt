@@ -1,4 +1,4 @@
-use Rattle.std.proofs.Common.{◌≡◌, [], arith, ap, refl, sym, ◌∙◌}
+use Rattle.std.proofs.Common.{◌≡◌, [], arith, ap, refl, ◌∙◌}
 use Rattle.std.proofs.lemmas.List.{length-set, get_or_read_under}
 use Rattle.dpx_pack.specs.Bits.{padding}
 use Rattle.dpx_buffer.specs.Rows.{bits_of}

@@ -56,7 +56,8 @@ invariant_of-self g c =
     c.put_rows.ensures.capacity c.pack_rows-count.ensures.lanes
     (c.put_rows.ensures.items
     ∙ ap (λ n. old ++ rows_of c.pack_rows-count.new.rows n c.pack_rows-count.result) wide)
-    c.pack_rows-count.ensures.size (put_rows-requires-clause-count g c.before) (put_rows-requires-clause-room g c.before)
+    c.pack_rows-count.ensures.size (put_rows-requires-clause-count g c.before)
+    (put_rows-requires-clause-room g c.before)
     (λ k few. length-bits_of_pixel g.row.C (slice_index_or c.args.group.now k black)
     ∙ sym (length-bits_of_pixel g.row.C (slice_index_or c.args.group.now 0 black)))
     c.pack_rows-count.ensures.each

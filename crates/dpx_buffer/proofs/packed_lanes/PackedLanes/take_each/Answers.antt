@@ -1,5 +1,6 @@
 use Rattle.std.proofs.Common.{sym, arith, ◌∙◌}
-use Rattle.dpx_buffer.proofs.InRows.{lanes_length, lane_at, column_length, row_first, row_there, row_wide, rows_left, takes_row}
+use Rattle.dpx_buffer.proofs.InRows.{lanes_length, lane_at, column_length, row_first, row_there}
+use Rattle.dpx_buffer.proofs.InRows.{row_wide, rows_left, takes_row}
 use Rattle.dpx_buffer.proofs.packed_lanes.PackedLanes.take_each.Goals as goal
 
 pub unreachable-requires : goal.unreachable-requires
