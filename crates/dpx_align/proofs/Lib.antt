@@ -4,6 +4,7 @@ pub mod Completing
 pub mod Fed
 pub mod FedOn
 pub mod FirstFaults
+pub mod Heads
 pub mod LaneSymbols
 pub mod LockStays
 pub mod Meeting

@@ -1,28 +1,31 @@
-ghost use Rattle.std.specs.Prelude.{◌≡◌, ◌<◌, ◌≤◌, ◌+◌, ◌^◌, ℕ, List, [], ◌∷◌, ◌++◌, length, drop, IfOk, slice_get};
+ghost use Rattle.std.specs.Prelude.{◌≡◌, ◌<◌, ◌≤◌, ◌+◌, ◌^◌, ℕ, List, [], ◌++◌, length, drop, map, IfOk, slice_get};
 ghost use Rattle.dpx_base.specs.declared.sym.Sym.{Sym};
+ghost use Rattle.dpx_lane.specs.Codes.{symbol_of};
 ghost use Rattle.dpx_align.specs.Search.{sym_eq, begins_with, near, head};
 
 use circular_buffer::HeapCircularBuffer;
 use dpx_base::Sym;
+use dpx_lane::symbol_of;
 use std::alloc::{AllocError, Global};
 use std::marker::Model;
 
 /// A batch of 8,192 clocks, and 64 symbols that may still wait for other lanes.
 const ROOM: usize = 8256;
 
-/// The symbols of one lane that may still be needed, in order.
+/// The symbols of one lane that may still be needed, in order. It keeps their codes, which come in whole rows.
 #[derive(Drop)]
 pub(crate) struct Ring {
-    buffer: HeapCircularBuffer<Sym>,
+    buffer: HeapCircularBuffer<u16>,
 }
 
 impl Model for Ring {
-    ghost use Rattle.std.specs.Prelude.{◌≡◌, List};
+    ghost use Rattle.std.specs.Prelude.{◌≡◌, List, map};
     ghost use Rattle.dpx_base.specs.declared.sym.Sym.{Sym};
+    ghost use Rattle.dpx_lane.specs.Codes.{symbol_of};
 
     ghost Value = { List Sym };
 
-    ghost view = { λ r. r.buffer.items };
+    ghost view = { λ r. map symbol_of r.buffer.items };
 
     ghost invariant = { λ r. r.buffer.capacity ≡ 8256 };
 }
@@ -49,17 +52,16 @@ impl Ring {
         self.buffer.len()
     }
 
-    pub fn push(&mut self, sym: Sym)
-        requires { length self.old < 8256 }
-        ensures { self.new ≡ self.old ++ sym ∷ [] }
+    /// Goes on by the symbols of a row of codes.
+    pub fn push_row(&mut self, row: &[u16])
+        requires { length self.old + length row.now ≤ 8256 }
+        ensures { self.new ≡ self.old ++ map symbol_of row.now }
     {
-        match self.buffer.try_push_back(sym) {
-            Ok(()) => {}
-            Err(_) => unreachable!(),
-        }
+        self.buffer.fill_from_slice(row);
     }
 
     /// Lets go of the first `count` symbols.
+    #[tactic(auto, using(crate::proofs::Heads::skipped))]
     pub fn skip(&mut self, count: usize)
         ensures { self.new ≡ drop count self.old }
     {
@@ -75,17 +77,19 @@ impl Ring {
         ensures { result ≡ slice_get self.now place }
     {
         match self.buffer.get(place) {
-            Some(sym) => Some(*sym),
+            Some(code) => Some(symbol_of(*code)),
             None => None,
         }
     }
 
-    pub fn first(&self) -> Sym
-        requires { 0 < length self.now }
-        ensures { result ≡ head self.now }
+    /// Takes the first symbol out.
+    pub fn take_first(&mut self) -> Sym
+        requires { 0 < length self.old }
+        ensures first { result ≡ head self.old }
+        ensures rest { self.new ≡ drop 1 self.old }
     {
-        match self.at(0) {
-            Some(sym) => sym,
+        match self.buffer.pop_front() {
+            Some(code) => symbol_of(code),
             None => unreachable!(),
         }
     }

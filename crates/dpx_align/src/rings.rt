@@ -1,19 +1,18 @@
 //! The rings of all lanes, and how the lock is looked for in them.
 
-ghost use Rattle.std.specs.Prelude.{◌≡◌, ◌<◌, ◌≤◌, ◌+◌, ◌^◌, ◌++◌, ℕ, List, [], length, drop, take, map, nat_lt};
+ghost use Rattle.std.specs.Prelude.{◌≡◌, ◌<◌, ◌≤◌, ◌+◌, ◌^◌, ℕ, List, [], length, drop, take, map, nat_lt};
 ghost use Rattle.std.specs.Prelude.{replicate, IfSome, IfOk};
 ghost use Rattle.std.specs.List.{list_any, list_all};
 ghost use Rattle.std.specs.Option.{is_some};
 ghost use Rattle.dpx_base.specs.Lanes.{lanes_count};
 ghost use Rattle.dpx_base.specs.Words.{words_of};
-ghost use Rattle.dpx_lane.specs.Codes.{symbol_of};
 ghost use Rattle.dpx_align.specs.Lock.{lane_of};
 ghost use Rattle.dpx_align.specs.Search.{begins_with, near, meets, scan, start, head, lengthened};
 ghost use Rattle.dpx_align.specs.Search.{lock_in, kept, decoded};
 
 use crate::ring::Ring;
 use dpx_base::{LaneSet, Lanes, Sym};
-use dpx_lane::{LaneRows, symbol_of};
+use dpx_lane::LaneRows;
 use std::alloc::{AllocError, Global};
 use std::marker::Model;
 
@@ -90,27 +89,34 @@ fn skip_to_groups(rings: &mut [Ring], group: &[Sym], place: usize)
     }
 }
 
-/// The first symbol of each ring.
-fn heads(rings: &[Ring]) -> LaneSet
-    requires lanes { (1 ≤ length rings.now) × (length rings.now ≤ 4) }
-    requires wait { (lane : ℕ) → lane < length rings.now → 0 < length (lane_of rings.now lane) }
-    ensures { result ≡ map head rings.now }
+/// The first symbol of each of so many rings, which is let go. Their number is known when this is compiled, so that the
+/// symbols need not lie in memory.
+fn take_firsts<const LANES: usize>(rings: &mut [Ring]) -> LaneSet
+    requires lanes { length rings.old ≡ LANES }
+    requires few { (1 ≤ LANES) × (LANES ≤ 4) }
+    requires wait { (lane : ℕ) → lane < LANES → 0 < length (lane_of rings.old lane) }
+    ensures set { result ≡ map head rings.old }
+    ensures rest { rings.new ≡ map (λ ring. drop 1 ring) rings.old }
 {
-    match rings {
-        [a] => LaneSet::from_slice(&[a.first()]),
-        [a, b] => LaneSet::from_slice(&[a.first(), b.first()]),
-        [a, b, c] => LaneSet::from_slice(&[a.first(), b.first(), c.first()]),
-        [a, b, c, d] => LaneSet::from_slice(&[a.first(), b.first(), c.first(), d.first()]),
-        _ => unreachable!(),
+    let mut symbols = [Sym::data(0); LANES];
+    for lane in 0..LANES {
+        symbols[lane] = rings[lane].take_first();
     }
+    LaneSet::from_slice(&symbols)
 }
 
-fn push_row(ring: &mut Ring, row: &[u16])
-    requires { length ring.old + length row.now ≤ 8256 }
-    ensures { ring.new ≡ ring.old ++ map symbol_of row.now }
+/// The first symbol of each ring, which is let go.
+fn take_heads(rings: &mut [Ring]) -> LaneSet
+    requires lanes { (1 ≤ length rings.old) × (length rings.old ≤ 4) }
+    requires wait { (lane : ℕ) → lane < length rings.old → 0 < length (lane_of rings.old lane) }
+    ensures set { result ≡ map head rings.old }
+    ensures rest { rings.new ≡ map (λ ring. drop 1 ring) rings.old }
 {
-    for code in row {
-        ring.push(symbol_of(*code));
+    match rings.len() {
+        1 => take_firsts::<1>(rings),
+        2 => take_firsts::<2>(rings),
+        3 => take_firsts::<3>(rings),
+        _ => take_firsts::<4>(rings),
     }
 }
 
@@ -123,7 +129,7 @@ fn push_rows(rings: &mut [Ring], rows: &LaneRows, count: usize)
     ensures { rings.new ≡ lengthened rings.old (map (λ row. take count row) (decoded rows.now.rows)) }
 {
     for lane in 0..rings.len() {
-        push_row(&mut rings[lane], &rows.row(lane as u8)[..count]);
+        rings[lane].push_row(&rows.row(lane as u8)[..count]);
     }
 }
 
@@ -219,8 +225,6 @@ impl Rings {
         ensures set { result ≡ map head self.old }
         ensures rest { self.new ≡ map (λ ring. drop 1 ring) self.old }
     {
-        let set = heads(self.rings.as_slice());
-        skip_all(self.rings.as_mut_slice(), 1);
-        set
+        take_heads(self.rings.as_mut_slice())
     }
 }

@@ -61,8 +61,11 @@ pub(crate) fn take_each<const C: usize>(lanes: &mut Vec<Lane<C>>) -> LaneBytes
 {
     let mut bytes = [0; 4];
     let count = lanes.len();
-    for lane in 0..count {
-        bytes[lane] = lanes[lane].take();
+    // A loop of fixed length, of which the compiler makes straight code.
+    for lane in 0..4usize {
+        if lane < count {
+            bytes[lane] = lanes[lane].take();
+        }
     }
     LaneBytes::from_slice(&bytes[..count])
 }

@@ -6,8 +6,8 @@
 //! * `job`, `training`, `sending`, `receiving`, `generating`, `fetching`, `watching`: steps of commands
 //! * `transfer`: whole reads, whole writes
 //! * `stop`, `printing`: why a command stops, what is printed and with which status it ends
-//! * `report`, `lines`, `send_lines`, `recv_lines`, `gen_lines`, `edid_lines`, `watch_lines`: the text of a report as it
-//!   grows, and its lines
+//! * `report`, `lines`, `send_lines`, `recv_lines`, `gen_lines`, `edid_lines`, `watch_lines`: the text of a report as
+//!   it grows, and its lines
 #![tactic(auto)]
 
 mod commands;

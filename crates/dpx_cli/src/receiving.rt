@@ -56,7 +56,8 @@ pub(crate) fn receive_piece<S: Source, O: Sink, G: Gate, R: Threads + Sync>(
     ensures ends { (bytes records text : List ℕ) → StandsFor receiver.old bytes records text
         → bytes_fed receiver.old ≡ length bytes
         → PieceEnds (S.seen src.old ⇒ S.seen src.new) (O.seen pix.old ⇒ O.seen pix.new)
-        (O.seen out.old ⇒ O.seen out.new) receiver.new (length piece.old) bytes records text (link_of receiver.old) result }
+        (O.seen out.old ⇒ O.seen out.new) receiver.new (length piece.old) bytes records text (link_of receiver.old)
+        result }
     ensures link { link_of receiver.new ≡ link_of receiver.old }
     ensures piece { length piece.new ≡ length piece.old }
 {

@@ -18,8 +18,8 @@ pub enum Slot {
     Timing(Mode),
 }
 
-/// What the bytes say. A timing has 8 bits a component, and a sync pulse is negative where the pulses are digital and
-/// separate and its bit is 0, which is this project's own reading. Bytes 12 to 16 are not looked at.
+/// What the bytes say. A timing has 8 bits a component, and a sync pulse is negative where the pulses are digital
+/// and separate and its bit is 0, which is this project's own reading. Bytes 12 to 16 are not looked at.
 pub fn read_timing(bytes: &[u8; 18]) -> Slot
     ensures { result ≡ read_timing bytes.now }
 {
@@ -71,8 +71,8 @@ fn is_negative(bit: u8, flags: u8) -> bool
     flags / 8 % 4 == 3 && flags / bit % 2 == 0
 }
 
-/// The timing of a mode; none where the clock is no multiple of 10 kHz or above 655,350 kHz, a component has not 8 bits,
-/// or a number has no room.
+/// The timing of a mode; none where the clock is no multiple of 10 kHz or above 655,350 kHz, a component has not
+/// 8 bits, or a number has no room.
 pub fn write_timing(mode: &Mode) -> Option<[u8; 18]>
     ensures { result ≡ write_timing mode.now }
 {

@@ -88,43 +88,6 @@ at_first p blank parts pixel wait units plan eb et ep ew inside =
       units_is = inside;
     }
 
--- a clock before the first line's BE
-pub at_before : (p : PlanFacts) (t : ℕ) (c : Counters) → StandsAt p t c → 0 < c.before
-    → StandsAt p (t + 1) (record c { before = c.before - 1 })
-at_before p t c at some = record {
-  clock_is = omega (arith, at.clock_is);
-  before_first = λ h. at.before_first some;
-  until_is = at.until_is;
-  until_some = at.until_some;
-  row_is = at.row_is;
-  spare_is = at.spare_is;
-  in_frame_is = at.in_frame_is;
-  units_is = at.units_is;
-}
-
--- a clock in a line
-pub at_inside : (p : PlanFacts) (t : ℕ) (c : Counters) (units : Units) → StandsAt p t c → c.before ≡ 0 → 1 < c.until
-    → StandsInLine (timing p) c.since units
-    → StandsAt p (t + 1) (record c {
-      since = c.since + 1;
-      until = c.until - 1;
-      in_frame = c.in_frame + 1;
-      units =
-          units;
-    })
-at_inside p t c units at none more inside =
-    let e : c.since + 1 - 1 ≡ c.since = omega arith in
-    record {
-      clock_is = omega (arith, at.clock_is);
-      before_first = λ h. omega arith;
-      until_is = omega (arith, at.until_is);
-      until_some = omega arith;
-      row_is = at.row_is;
-      spare_is = at.spare_is;
-      in_frame_is = omega (arith, at.in_frame_is);
-      units_is = rw e inside;
-    }
-
 -- the next line's BE, in the same frame or at the next one's begin
 abbrev pub IsNextRow : PlanFacts → Counters → (row in_frame : ℕ) → Type 0
 IsNextRow p c row in_frame =

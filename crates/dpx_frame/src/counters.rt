@@ -55,40 +55,32 @@ impl Counters {
         }
     }
 
-    /// A clock later.
-    pub(crate) fn later(self, plan: &Plan) -> Counters
-        requires { IsBounded self }
-        ensures { (t : ℕ) → StandsAt plan.now t self → StandsAt plan.now (t + 1) result }
+    /// Goes a clock on.
+    pub(crate) fn step(&mut self, plan: &Plan)
+        requires { IsBounded self.old }
+        ensures { (t : ℕ) → StandsAt plan.now t self.old → StandsAt plan.now (t + 1) self.new }
     {
         if self.before > 0 {
-            Counters {
-                before: self.before - 1,
-                ..self
-            }
+            self.before -= 1;
         } else if self.until == 1 {
-            self.next_line(plan)
+            *self = self.next_line(plan);
         } else {
-            self.in_line(plan)
+            self.step_in_line(plan);
         }
     }
 
-    /// A clock later, in the same line.
-    fn in_line(self, plan: &Plan) -> Counters
-        requires { IsBounded self }
-        ensures { (t : ℕ) → self.before ≡ 0 → 1 < self.until → StandsAt plan.now t self →
-            StandsAt plan.now (t + 1) result }
+    /// Goes a clock on, in the same line.
+    fn step_in_line(&mut self, plan: &Plan)
+        requires { IsBounded self.old }
+        ensures { (t : ℕ) → self.old.before ≡ 0 → 1 < self.old.until → StandsAt plan.now t self.old →
+            StandsAt plan.now (t + 1) self.new }
     {
-        Counters {
-            since: self.since + 1,
-            until: self.until - 1,
-            in_frame: self.in_frame + 1,
-            units: if self.since == 0 {
-                self.units
-            } else {
-                self.units.later(plan)
-            },
-            ..self
+        if self.since > 0 {
+            self.units.step(plan);
         }
+        self.since += 1;
+        self.until -= 1;
+        self.in_frame += 1;
     }
 
     /// A clock later, at the next line's BE.

@@ -47,7 +47,7 @@ impl Schedule {
             return Slot::Ended;
         }
         let slot = self.counters.slot(&self.plan);
-        self.counters = self.counters.later(&self.plan);
+        self.counters.step(&self.plan);
         self.clock += 1;
         slot
     }

@@ -44,19 +44,17 @@ impl Units {
         Units::behind(plan, u64::from(plan.symbols()), 0)
     }
 
-    /// The next clock of the line.
-    pub(crate) fn later(self, plan: &Plan) -> Units
-        requires rest { self.rest < 2 ^ 32 }
-        requires place { self.place < 2 ^ 32 }
-        ensures unit { (w : ℕ) → StandsInLine (timing plan.now) w self → StandsInLine (timing plan.now) (w + 1) result }
+    /// Goes on to the next clock of the line.
+    pub(crate) fn step(&mut self, plan: &Plan)
+        requires rest { self.old.rest < 2 ^ 32 }
+        requires place { self.old.place < 2 ^ 32 }
+        ensures unit { (w : ℕ) → StandsInLine (timing plan.now) w self.old →
+            StandsInLine (timing plan.now) (w + 1) self.new }
     {
         if self.place + 1 < u64::from(plan.unit()) {
-            Units {
-                place: self.place + 1,
-                ..self
-            }
+            self.place += 1;
         } else {
-            Units::behind(plan, self.left, self.rest)
+            *self = Units::behind(plan, self.left, self.rest);
         }
     }
 }

@@ -1,7 +1,6 @@
 -- Which lists of sets a sink accepts, and what it receives of them: the symbols are the standard's, the rules this
 -- project's own. A list is accepted where it is a prefix of a list of periods and four conditions hold of the parts
--- that
--- it tells: VB-ID, readings, lines and their lengths.
+-- that it tells: VB-ID, readings, lines and their lengths.
 use Rattle.std.specs.Prelude.{ℕ, suc, ◌≡◌, ◌≤◌, ◌+◌, ◌*◌, ◌/◌, ◌%◌, ⊤, Bool, true, false, if◌then◌else◌, Ok}
 use Rattle.std.specs.Prelude.{List, [], ◌∷◌, ◌++◌, map, length, slice_index, slice_index_or}
 use Rattle.std.specs.List.{AllByRecursion, flat_map, filter}

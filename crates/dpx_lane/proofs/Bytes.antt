@@ -1,11 +1,12 @@
 -- Rows as bytes, word by word; and bytes as rows, clock by clock.
-use Rattle.std.proofs.Common.{◌≡◌, ◌≤◌, ◌<◌, ℕ, zero, suc, ◌+◌, ◌-◌, ◌*◌, ◌/◌, ◌%◌, List, [], ◌∷◌, ◌++◌, length, take}
+use Rattle.std.proofs.Common.{◌≡◌, ◌≤◌, ◌<◌, ℕ, zero, suc, ◌+◌, ◌-◌, ◌*◌, ◌/◌, List, [], ◌∷◌, ◌++◌, length, take}
 use Rattle.std.proofs.Common.{drop, map}
 use Rattle.std.proofs.Common.{get_or, replicate, refl, sym, ap, ◌∙◌, arith, append_assoc, length-append, length-take}
 use Rattle.std.specs.List.{range_with_len, flat_map}
 use Rattle.std.proofs.Math.Nat.{le-div_iff_mul-le, le_of_mul-le-mul_left}
 use Rattle.std.proofs.Math.Seq.{take-append_seam, drop-append-add}
 use Rattle.std.proofs.lemmas.Grind.{flat_map-append}
+use Rattle.std.proofs.lemmas.Nat.{mod-mul-add, div-mul-add}
 use Rattle.std.proofs.lemmas.List.{append-nil, drop-drop, drop_all, length-drop, get_or-take, get_or-drop}
 use Rattle.std.proofs.lemmas.List.FromFn.{map-range_with_len_more, length-map-range_with_len}
 use Rattle.dpx_base.specs.Attributes.{two_bytes}
@@ -25,9 +26,13 @@ some_lane Four = omega arith
 unfoldable pub bytes_to : (lanes : ℕ) → (words : List (List ℕ)) → (n : ℕ) → List ℕ
 bytes_to lanes words n = flat_map two_bytes (map (word_at lanes words) (range_with_len 0 n))
 
-pub bytes_none : (lanes : ℕ) (words : List (List ℕ)) → bytes_to lanes words 0 ≡ []
+-- they stand in the place of as many bytes of these
+abbrev pub HasFirst : (lanes : ℕ) → (words : List (List ℕ)) → (all : List ℕ) → (n : ℕ) → (to : List ℕ) → Type 0
+HasFirst lanes words all n to = to ≡ bytes_to lanes words n ++ drop (2 * n) all
+
+pub has_none : (lanes : ℕ) (words : List (List ℕ)) (all : List ℕ) (n : ℕ) → n ≡ 0 → HasFirst lanes words all n all
 unfolding bytes_to
-bytes_none lanes words = refl
+has_none lanes words all n e = rw e refl
 
 bytes_more : (lanes : ℕ) (words : List (List ℕ)) (n : ℕ)
     → bytes_to lanes words (n + 1) ≡ bytes_to lanes words n ++ two_bytes (word_at lanes words n)
@@ -48,11 +53,10 @@ bytes_length lanes words n =
     ∙ ap (λ k. 2 * k) (length-map-range_with_len (word_at lanes words) 0 n)
 
 -- a word put behind those that stand there
-pub put_next : (lanes : ℕ) (words : List (List ℕ)) (k word : ℕ) (old new all : List ℕ)
-    → old ≡ bytes_to lanes words k ++ drop (2 * k) all → word ≡ word_at lanes words k
-    → new ≡ take (2 * k) old ++ (two_bytes word ++ drop (2 * k + 2) old)
-    → new ≡ bytes_to lanes words (k + 1) ++ drop (2 * (k + 1)) all
-put_next lanes words k word old new all before is put =
+pub put_next : (lanes : ℕ) (words : List (List ℕ)) (all : List ℕ) (k next word : ℕ) (old new : List ℕ)
+    → next ≡ k + 1 → HasFirst lanes words all k old → word ≡ word_at lanes words k
+    → new ≡ take (2 * k) old ++ (two_bytes word ++ drop (2 * k + 2) old) → HasFirst lanes words all next new
+put_next lanes words all k next word old new n before is put =
     let front = bytes_to lanes words k in
     let size : length front ≡ 2 * k = bytes_length lanes words k in
     let t : take (2 * k) old ≡ front = rw (before, ← size) (take-append_seam front (drop (length front) all)) in
@@ -62,21 +66,20 @@ put_next lanes words k word old new all before is put =
     drop-drop 2 (2 * k) all ∙ ap (λ n. drop n all) {x = 2 * k + 2} {y = 2 * (k + 1)} (omega arith) in
     let b : bytes_to lanes words (k + 1) ≡ front ++ two_bytes word =
     bytes_more lanes words k ∙ ap (λ w. front ++ two_bytes w) (sym is) in
-    rw (b, put, t, d, e) (sym (append_assoc front (two_bytes word) (drop (2 * (k + 1)) all)))
+    rw (n, b, put, t, d, e) (sym (append_assoc front (two_bytes word) (drop (2 * (k + 1)) all)))
 
-pub all_put : (lanes clocks : ℕ) (words : List (List ℕ)) (n : ℕ) (to all : List ℕ) → n ≡ lanes * clocks
-    → to ≡ bytes_to lanes words n ++ drop (2 * n) all → length all ≡ 2 * (lanes * clocks)
-    → to ≡ word_bytes lanes clocks words
+pub all_put : (lanes clocks : ℕ) (words : List (List ℕ)) (all : List ℕ) (n : ℕ) (to : List ℕ) → n ≡ lanes * clocks
+    → HasFirst lanes words all n to → length all ≡ 2 * (lanes * clocks) → to ≡ word_bytes lanes clocks words
 unfolding bytes_to word_bytes
-all_put lanes clocks words n to all e is long =
+all_put lanes clocks words all n to e is long =
     let none : drop (2 * n) all ≡ [] = drop_all (2 * n) all (omega (arith, long, e)) in
     is
     ∙ (ap (λ xs. bytes_to lanes words n ++ xs) none
     ∙ (append-nil (bytes_to lanes words n) ∙ ap (λ k. bytes_to lanes words k) e))
 
-pub word_from : (lanes : ℕ) (words : List (List ℕ)) (k n word : ℕ) → n ≡ lanes
-    → word ≡ get_or (words_of words (k % n)) (k / n) 0 → word ≡ word_at lanes words k
-word_from lanes words k n word e h = rw (← e) h
+pub word_from : (lanes : ℕ) (words : List (List ℕ)) (clock lane word : ℕ) → lane < lanes
+    → word ≡ get_or (words_of words lane) clock 0 → word ≡ word_at lanes words (clock * lanes + lane)
+word_from lanes words clock lane word l h = rw (mod-mul-add clock lanes lane l, div-mul-add clock lanes lane l) h
 
 -- The way back.
 

@@ -164,14 +164,29 @@ impl LaneRows {
         put(&mut self.fourth, fourth);
     }
 
+    /// Writes the entries of so many lanes in a capture's order. Their number is known when this is compiled: each word
+    /// then costs no test.
+    fn write_clocks<const LANES: usize>(&self, to: &mut [u8])
+        requires lanes { LANES ≡ lanes_count self.now.lanes }
+        requires size { length to.old ≡ 2 * (LANES * self.now.clocks) }
+        ensures { to.new ≡ word_bytes LANES self.now.clocks self.now.rows }
+    {
+        for clock in 0..self.len() {
+            for lane in 0..LANES {
+                put_word(to, 2 * (clock * LANES + lane), self.get(lane as u8, clock));
+            }
+        }
+    }
+
     /// Writes the entries in a capture's order: clock by clock, and lane by lane within a clock.
     pub fn write_words(&self, to: &mut [u8])
         requires { length to.old ≡ 2 * (lanes_count self.now.lanes * self.now.clocks) }
         ensures { to.new ≡ word_bytes (lanes_count self.now.lanes) self.now.clocks self.now.rows }
     {
-        let lanes = usize::from(self.lanes.count());
-        for done in 0..lanes * self.len() {
-            put_word(to, 2 * done, self.get((done % lanes) as u8, done / lanes));
+        match self.lanes {
+            Lanes::One => self.write_clocks::<1>(to),
+            Lanes::Two => self.write_clocks::<2>(to),
+            Lanes::Four => self.write_clocks::<4>(to),
         }
     }
 

@@ -1,16 +1,20 @@
-ghost use Rattle.std.specs.Prelude.{◌≡◌, ◌≤◌, ◌<◌, ◌+◌, ◌*◌, ◌++◌, length, codes};
+ghost use Rattle.std.specs.Prelude.{◌≡◌, ◌≤◌, ◌<◌, ◌+◌, ◌*◌, ◌++◌, OnOk, OnErr, length, codes};
 ghost use Rattle.std.specs.Fmt.{decimal};
+ghost use Rattle.std.specs.Io.KnownBytes.{Appends};
 ghost use Rattle.arrayvec.specs.ArrayVec.{array_vec_len};
+ghost use Rattle.dpx_base.specs.Faults.{HasCause};
 ghost use Rattle.dpx_base.specs.Mode.{depth_bits};
+ghost use Rattle.dpx_base.specs.Transfer.{AppendsFront};
 ghost use Rattle.dpx_reception.specs.Digits.{hex_digit, hex_byte};
 ghost use Rattle.dpx_reception.specs.Due.{attributes_line, bit};
 
 use arrayvec::ArrayVec;
+use dpx_base::{Failed, Sink, write_whole};
 use dpx_msa::Attributes;
 use itoa::Buffer;
 
 /// Room for the words of a line and for numbers of 32 bits between them.
-pub(crate) type LineText = ArrayVec<u8, 256>;
+type LineText = ArrayVec<u8, 256>;
 
 fn push(line: &mut LineText, text: &[u8])
     requires { array_vec_len line.old + length text.now ≤ 256 }
@@ -66,7 +70,7 @@ fn bit(b: bool) -> u32
 }
 
 /// The line that tells attributes.
-pub(crate) fn attributes_line(a: &Attributes) -> LineText
+fn attributes_line(a: &Attributes) -> LineText
     ensures { result.items ≡ attributes_line a.now }
 {
     let mut line = ArrayVec::new();
@@ -87,4 +91,14 @@ pub(crate) fn attributes_line(a: &Attributes) -> LineText
     push_number(&mut line, " depth ", a.depth.bits() as u32);
     push(&mut line, b"\n");
     line
+}
+
+/// Writes the line. It stays a call, so that only attributes pay for the room of its text.
+#[inline(never)]
+pub(crate) fn write_attributes<O: Sink>(log: &mut O, a: &Attributes) -> Result<(), Failed>
+    ensures whole { OnOk result (Appends (O.seen log.old).taken (O.seen log.new).taken (attributes_line a.now)) }
+    ensures front { OnErr result (AppendsFront (O.seen log.old).taken (O.seen log.new).taken (attributes_line a.now)) }
+    ensures cause { HasCause (O.seen log.old).faults (O.seen log.new).faults result }
+{
+    write_whole(log, attributes_line(a).as_slice())
 }

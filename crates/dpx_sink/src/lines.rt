@@ -10,7 +10,7 @@ ghost use Rattle.dpx_base.specs.Transfer.{AppendsFront};
 ghost use Rattle.dpx_sink.specs.Writes.{Calm, PixelsTook, LogTook, OneFailed, sinks};
 
 use crate::Output;
-use crate::attributes_line::attributes_line;
+use crate::attributes_line::write_attributes;
 use crate::line_store::{LINE_ROOM, LineStore};
 use crate::unpack::LanePixels;
 use dpx_base::{Failed, LaneBytes, Lanes, Memory, Sink, write_whole};
@@ -162,7 +162,7 @@ impl Lines {
             Event::Nothing => Ok(()),
             Event::Attributes(attributes) => {
                 self.take_attributes(&attributes);
-                match write_whole(log, attributes_line(&attributes).as_slice()) {
+                match write_attributes(log, &attributes) {
                     Ok(()) => Ok(()),
                     Err(_) => Err(Output::Log),
                 }

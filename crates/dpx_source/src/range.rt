@@ -1,4 +1,4 @@
-ghost use Rattle.std.specs.Prelude.{◌≡◌, ◌<◌, ◌+◌, ◌^◌};
+ghost use Rattle.std.specs.Prelude.{◌≡◌, ◌<◌, ◌+◌, ◌^◌, ℕ};
 ghost use Rattle.dpx_base.specs.Mode.{depth_bits};
 ghost use Rattle.dpx_source.specs.Pixels.{bad_value, first_bad};
 
@@ -18,11 +18,10 @@ fn limit(depth: Depth) -> u32
     }
 }
 
-/// The pixel's first component that is out of range.
-fn bad_value(depth: Depth, pixel: Pixel) -> Option<u16>
-    ensures { result ≡ bad_value (depth_bits depth) pixel }
+/// The pixel's first component that is not below the limit.
+fn bad_value(limit: u32, pixel: Pixel) -> Option<u16>
+    ensures { (depth : ℕ) → limit ≡ 2 ^ depth → result ≡ bad_value depth pixel }
 {
-    let limit = limit(depth);
     if limit <= u32::from(pixel.r) {
         Some(pixel.r)
     } else if limit <= u32::from(pixel.g) {
@@ -39,8 +38,9 @@ pub(crate) fn first_bad(depth: Depth, number: u64, arrivals: &Arrivals) -> Optio
     requires { number + 2 < 2 ^ 64 }
     ensures { result ≡ first_bad (depth_bits depth) number arrivals.now }
 {
+    let limit = limit(depth);
     for place in 0..arrivals.len() {
-        if let Some(value) = bad_value(depth, arrivals.get(place)) {
+        if let Some(value) = bad_value(limit, arrivals.get(place)) {
             let number = number + place as u64;
             return Some(BadPixel { number, value });
         }

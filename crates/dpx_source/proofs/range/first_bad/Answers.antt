@@ -6,9 +6,9 @@ use Rattle.dpx_source.proofs.range.first_bad.Goals as goal
 pub returns-in-Some : goal.returns-in-Some
 returns-in-Some c =
     bad_found (depth_bits c.args.depth) c.args.number c.loop-place.place c.in-Some.value c.args.arrivals.now
-    c.get.result c.get.ensures c.loop-place.invariant (sym c.bad_value.ensures ∙ c.in-Some.is)
+    c.get.result c.get.ensures c.loop-place.invariant (sym (c.bad_value.ensures (depth_bits c.args.depth) c.limit-limit.ensures) ∙ c.in-Some.is)
 
 pub loop-place-preserved : goal.loop-place-preserved
 loop-place-preserved c =
     bad_later (depth_bits c.args.depth) c.args.number c.loop-place.place c.args.arrivals.now c.get.result c.get.ensures
-    c.loop-place.invariant (sym c.bad_value.ensures ∙ c.in_default.is)
+    c.loop-place.invariant (sym (c.bad_value.ensures (depth_bits c.args.depth) c.limit-limit.ensures) ∙ c.in_default.is)

@@ -5,5 +5,5 @@ use Rattle.dpx_source.proofs.range.first_bad.Given as goal
 
 abbrev pub invariant-loop-place : goal.invariant-loop-place
 invariant-loop-place l =
-    first_bad (depth_bits l.depth) l.number l.arrivals
-    ≡ first_bad (depth_bits l.depth) (l.number + l.place) (drop l.place l.arrivals)
+    first_bad (depth_bits l.fn.depth) l.number l.arrivals
+    ≡ first_bad (depth_bits l.fn.depth) (l.number + l.place) (drop l.place l.arrivals)

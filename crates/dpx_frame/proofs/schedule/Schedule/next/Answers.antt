@@ -15,8 +15,8 @@ slot-slot-requires c =
     at_sound s.plan s.clock s.counters c.self.invariant.planned c.self.invariant.counters
     (rw c.clocks.ensures.value at c.if-clocks-self.false) (rw c.clocks.ensures.value at c.clocks.ensures.small)
 
-pub later-self-inside-requires : goal.later-self-inside-requires
-later-self-inside-requires c =
+pub step-requires : goal.step-requires
+step-requires c =
     let s = c.self.inside in
     at_sound s.plan s.clock s.counters c.self.invariant.planned c.self.invariant.counters
     (rw c.clocks.ensures.value at c.if-clocks-self.false) (rw c.clocks.ensures.value at c.clocks.ensures.small)
@@ -25,7 +25,7 @@ pub invariant_of-self : goal.invariant_of-self
 invariant_of-self c = record {
   planned = c.self.invariant.planned;
   within = omega (arith, c.clocks.ensures.value, c.if-clocks-self.false);
-  counters = c.later-self-inside.ensures c.self.inside.clock c.self.invariant.counters;
+  counters = c.step.ensures c.self.inside.clock c.self.invariant.counters;
 }
 
 pub returns-clause-slot : goal.returns-clause-slot

@@ -1,11 +1,11 @@
 use Rattle.std.proofs.Common.{◌+◌, ◌/◌, arith}
 use Rattle.dpx_base.specs.Plan.{timing}
 use Rattle.dpx_frame.proofs.UnitSteps.{unit_stays, unit_next}
-use Rattle.dpx_frame.proofs.units.Units.later.Goals as goal
+use Rattle.dpx_frame.proofs.units.Units.step.Goals as goal
 
 pub returns-then-self-from : goal.returns-then-self-from
 returns-then-self-from c = record {
-  unit = λ w h. unit_stays (timing c.args.plan.now) w c.args.self h
+  unit = λ w h. unit_stays (timing c.args.plan.now) w c.args.self.now h
       (rw (c.from.ensures, c.unit.ensures.value) at c.if-self-from.true);
 }
 
