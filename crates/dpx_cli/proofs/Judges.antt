@@ -15,7 +15,7 @@ use Rattle.dpx_judge.specs.Transcript.{IsVerdict}
 use Rattle.dpx_cli.specs.declared.stop.Stop.{Stop}
 use Rattle.dpx_cli.specs.declared.stop.Stop.TheVariants.{NotWhole, NoMemory, OutFault}
 use Rattle.dpx_cli.specs.Jobs.{HasJob}
-use Rattle.dpx_cli.specs.Judge.{JobJudged, JudgeCauses, SaysVerdict, SomeVerdict, VerdictReported, entries_asked}
+use Rattle.dpx_cli.specs.Judge.{JobJudged, JudgeCauses, SaysVerdict, VerdictReported, entries_asked}
 use Rattle.dpx_cli.specs.Judge.{verdict_status}
 use Rattle.dpx_cli.specs.JudgeLines.{verdict_line}
 use Rattle.dpx_cli.specs.Printing.{StepsDo}
@@ -55,10 +55,9 @@ clean_status (Differs place) status is = (
   λ e. omega (arith, e, is),
 )
 
-pub verdicts_are_reports : (src : Step SourceSeen)
-    → AreReports need.Judge src (SomeVerdict src) (VerdictReported src)
+pub verdicts_are_reports : (src : Step SourceSeen) → AreReports need.Judge src ⊤ (VerdictReported src)
 verdicts_are_reports src = record {
-  done = λ status text r. record { entries = r.entries; verdict = r.verdict; judged = r.judged };
+  done = λ status text r. tt;
   clean = λ status text r. clean_status r.verdict status r.status_is;
   calm = λ status text r. r.judged.has.calm;
   reads = λ status text r. not_none need.Judge src.before.left r.judged.asked r.judged.has.reads;

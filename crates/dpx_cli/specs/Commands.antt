@@ -1,7 +1,17 @@
 -- Which command the words ask for.
-use Rattle.std.specs.Prelude.{◌≡◌, ℕ, ⊤}
+use Rattle.std.specs.Prelude.{◌≡◌, ℕ, List, None, IsSomeAnd, String, ⊤}
+use Rattle.std.specs.declared.alloc.Global.{Global}
 use Rattle.dpx_words.specs.declared.command.Command.{Command}
 use Rattle.dpx_words.specs.declared.command.Command.TheVariants.{Train, Send, Run, Recv, Gen, Edid, Watch, Judge}
+use Rattle.dpx_words.specs.Reading.{command_in}
+
+-- the words have a reading, a command of this kind
+abbrev pub Ask : (Command → Type 0) → List (String Global) → Type 0
+Ask IsOfKind words = IsSomeAnd (command_in words) IsOfKind
+
+-- the words have no reading
+abbrev pub NoReading : List (String Global) → Type 0
+NoReading words = command_in words ≡ None
 
 abbrev pub IsTrain : Command → Type 0
 IsTrain (Train job) = ⊤

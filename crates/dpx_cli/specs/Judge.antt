@@ -54,12 +54,6 @@ module _ (src : Step SourceSeen) where
     pub told : entries_asked asked ≡ Some entries
     pub judged : IsVerdict link entries verdict
 
-  -- some verdict was given
-  pub record SomeVerdict : Type 0 where
-    pub entries : List Entry
-    pub verdict : Verdict
-    pub judged : JobJudged entries verdict
-
   -- the report tells the verdict, and the status is the verdict's
   pub record VerdictReported (status : ℕ) (text : List ℕ) : Type 0 where
     pub entries : List Entry
@@ -68,9 +62,10 @@ module _ (src : Step SourceSeen) where
     pub status_is : status ≡ verdict_status verdict
     pub said : text ≡ verdict_line (length entries) verdict
 
+  -- No other object can change, so nothing is said of them.
   abbrev pub JudgeCauses : Result ⊤ Stop → List ℕ → Type 0
-  JudgeCauses = ReportCauses need.Judge src ⊤ SomeVerdict VerdictReported
+  JudgeCauses = ReportCauses need.Judge src ⊤ ⊤ VerdictReported
 
   -- What the command does, status by status.
   abbrev pub JudgeDoes : (out : Step SinkSeen) (status : ℕ) → Type 0
-  JudgeDoes = ReportDoes need.Judge src ⊤ SomeVerdict VerdictReported
+  JudgeDoes = ReportDoes need.Judge src ⊤ ⊤ VerdictReported

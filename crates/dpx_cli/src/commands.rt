@@ -1,11 +1,10 @@
-ghost use Rattle.std.specs.Prelude.{◌≡◌, ◌≢◌, ◌⊎◌, ℕ, ◌+◌, ◌*◌, ◌≤◌, None, IsSome, IsSomeAnd};
+ghost use Rattle.std.specs.Prelude.{◌≡◌, ◌≢◌, ◌⊎◌, ℕ, ◌+◌, ◌*◌, ◌≤◌, IsSome};
 ghost use Rattle.dpx_base.specs.Faults.{Rose};
 ghost use Rattle.dpx_files.specs.Events.{most_events};
 ghost use Rattle.dpx_link.specs.Training.{training_entries};
 ghost use Rattle.dpx_watch.specs.Step.{step_entries};
-ghost use Rattle.dpx_words.specs.Reading.{command_in};
 ghost use Rattle.dpx_cli.specs.declared.stop.Stop.{Stop};
-ghost use Rattle.dpx_cli.specs.Commands.{IsTrain, IsSend, IsRun, IsRecv, IsGen, IsEdid, IsWatch, IsJudge};
+ghost use Rattle.dpx_cli.specs.Commands.{Ask, NoReading, IsTrain, IsSend, IsRun, IsRecv, IsGen, IsEdid, IsWatch, IsJudge};
 ghost use Rattle.dpx_cli.specs.Edid.{EdidDoes};
 ghost use Rattle.dpx_cli.specs.Gen.{GenDoes};
 ghost use Rattle.dpx_cli.specs.Judge.{JudgeDoes};
@@ -17,7 +16,7 @@ ghost use Rattle.dpx_cli.specs.Status.{IsExitStatus, IsClean, Means};
 ghost use Rattle.dpx_cli.specs.Step.{◌⇒◌};
 ghost use Rattle.dpx_cli.specs.Watch.{WatchDoes};
 ghost use Rattle.dpx_cli.specs.Train.{SaysTrained, TrainDoes};
-ghost use Rattle.dpx_cli.specs.Transfer.{Prints, PrintsFirst};
+ghost use Rattle.dpx_cli.specs.Transfer.{PrintsFirst};
 
 use crate::edid::edid;
 use crate::generate::generate;
@@ -60,23 +59,20 @@ pub fn replay<S: Source, T: Pipe, P: LoadPort, O: Sink, R: Threads + Sync>(
     out: &mut O,
 ) -> u8
     // Whatever is answered: training asks at most 3,104 AUX requests, over all of the call, and trained is said only
-    // where the last status shows every lane in use done. A port that surely tells as many entries as a training has
-    // tells its history to the end. A supervisor asks at most 3,120 an event, of 64 events at most.
-    ensures bounded { (IsSomeAnd (command_in words.now) IsWatch → ⊥)
+    // where the last status shows every lane in use done. A supervisor asks at most 3,120 an event, of 64 at most.
+    // A port that surely tells as many entries as can come tells its history to the end.
+    ensures bounded { (Ask IsWatch words.now → ⊥)
         → (P.state aux.new).asked_in_all ≤ (P.state aux.old).asked_in_all + 3104 }
-    ensures watch_bounded { IsSomeAnd (command_in words.now) IsWatch
+    ensures watch_bounded { Ask IsWatch words.now
         → (P.state aux.new).asked_in_all ≤ (P.state aux.old).asked_in_all + 64 * 3120 }
-    ensures trained { IsSomeAnd (command_in words.now) IsTrain → result ≡ 0
-        → SaysTrained (P.state aux.new) (Prints (O.seen out.old ⇒ O.seen out.new)) }
-    ensures run_trained { IsSomeAnd (command_in words.now) IsRun → result ≡ 0
+    ensures trained { Ask IsTrain words.now ⊎ Ask IsRun words.now → result ≡ 0
         → SaysTrained (P.state aux.new) (PrintsFirst (O.seen out.old ⇒ O.seen out.new)) }
-    ensures told { (IsSomeAnd (command_in words.now) IsWatch → ⊥) → training_entries ≤ P.surely_told
+    ensures told { (Ask IsWatch words.now → ⊥) → training_entries ≤ P.surely_told
         → (aux.new ≡ aux.old) ⊎ IsSome (P.state aux.new).history }
-    ensures watch_told { IsSomeAnd (command_in words.now) IsWatch → most_events * step_entries ≤ P.surely_told
+    ensures watch_told { Ask IsWatch words.now → most_events * step_entries ≤ P.surely_told
         → (aux.new ≡ aux.old) ⊎ IsSome (P.state aux.new).history }
 
-    // There is no other status. A fault comes only where its object counted one, and none that was counted is passed
-    // over.
+    // No other status. A fault comes only where its object counted one, and none that was counted is passed over.
     ensures statuses { IsExitStatus result }
     ensures read_fault { result ≡ 7 → Rose (S.seen src.old).faults (S.seen src.new).faults }
     ensures write_fault { result ≡ 8 → Rose (O.seen pix.old).faults (O.seen pix.new).faults
@@ -87,43 +83,40 @@ pub fn replay<S: Source, T: Pipe, P: LoadPort, O: Sink, R: Threads + Sync>(
     ensures pix_is_calm { IsClean result → (O.seen pix.new).faults ≡ (O.seen pix.old).faults }
     ensures writes_are_calm { result ≢ 8 → (O.seen out.new).faults ≡ (O.seen out.old).faults }
 
-    // Words that have no reading: the usage line is printed, or that there is no memory for it, and nothing else is
-    // touched.
-    ensures usage { Means 2 (command_in words.now ≡ None) result }
-    ensures usage_is_printed { command_in words.now ≡ None
-        → StopsAtOnce (O.seen out.old ⇒ O.seen out.new) Stop.Usage result }
-    ensures usage_changes_only_out { command_in words.now ≡ None
+    // Words without a reading: the usage line is printed, or `memory` in its place, and nothing else is touched.
+    ensures usage { Means 2 (NoReading words.now) result }
+    ensures usage_is_printed { NoReading words.now → StopsAtOnce (O.seen out.old ⇒ O.seen out.new) Stop.Usage result }
+    ensures usage_changes_only_out { NoReading words.now
         → (src.new ≡ src.old) × (pipe.new ≡ pipe.old) × (aux.new ≡ aux.old) × (pix.new ≡ pix.old) }
 
     // What each command does, status by status; the objects that it does not name are as they were.
-    ensures train { IsSomeAnd (command_in words.now) IsTrain → TrainDoes (S.seen src.old ⇒ S.seen src.new)
+    ensures train { Ask IsTrain words.now → TrainDoes (S.seen src.old ⇒ S.seen src.new)
         (P.state aux.old ⇒ P.state aux.new) (aux.new ≡ aux.old) (O.seen out.old ⇒ O.seen out.new) result }
-    ensures train_keeps { IsSomeAnd (command_in words.now) IsTrain → (pipe.new ≡ pipe.old) × (pix.new ≡ pix.old) }
-    ensures send { IsSomeAnd (command_in words.now) IsSend → SendDoes (S.seen src.old ⇒ S.seen src.new)
+    ensures train_keeps { Ask IsTrain words.now → (pipe.new ≡ pipe.old) × (pix.new ≡ pix.old) }
+    ensures send { Ask IsSend words.now → SendDoes (S.seen src.old ⇒ S.seen src.new)
         (T.state pipe.old ⇒ T.state pipe.new) (O.seen pix.old ⇒ O.seen pix.new)
         ((pipe.new ≡ pipe.old) × (pix.new ≡ pix.old)) (O.seen out.old ⇒ O.seen out.new) result }
-    ensures send_keeps { IsSomeAnd (command_in words.now) IsSend → aux.new ≡ aux.old }
-    ensures run { IsSomeAnd (command_in words.now) IsRun → RunDoes (S.seen src.old ⇒ S.seen src.new)
+    ensures send_keeps { Ask IsSend words.now → aux.new ≡ aux.old }
+    ensures run { Ask IsRun words.now → RunDoes (S.seen src.old ⇒ S.seen src.new)
         (P.state aux.old ⇒ P.state aux.new) (aux.new ≡ aux.old) (T.state pipe.old ⇒ T.state pipe.new)
         (O.seen pix.old ⇒ O.seen pix.new) ((pipe.new ≡ pipe.old) × (pix.new ≡ pix.old))
         (O.seen out.old ⇒ O.seen out.new) result }
-    ensures recv { IsSomeAnd (command_in words.now) IsRecv → RecvDoes (S.seen src.old ⇒ S.seen src.new)
+    ensures recv { Ask IsRecv words.now → RecvDoes (S.seen src.old ⇒ S.seen src.new)
         (O.seen pix.old ⇒ O.seen pix.new) (pix.new ≡ pix.old) (O.seen out.old ⇒ O.seen out.new) result }
-    ensures recv_keeps { IsSomeAnd (command_in words.now) IsRecv → (pipe.new ≡ pipe.old) × (aux.new ≡ aux.old) }
-    ensures generate { (seed : ℕ) → IsSomeAnd (command_in words.now) (IsGen seed)
+    ensures recv_keeps { Ask IsRecv words.now → (pipe.new ≡ pipe.old) × (aux.new ≡ aux.old) }
+    ensures generate { (seed : ℕ) → Ask (IsGen seed) words.now
         → GenDoes seed (O.seen pix.old ⇒ O.seen pix.new) (pix.new ≡ pix.old) (O.seen out.old ⇒ O.seen out.new) result }
-    ensures generate_keeps { (seed : ℕ) → IsSomeAnd (command_in words.now) (IsGen seed)
+    ensures generate_keeps { (seed : ℕ) → Ask (IsGen seed) words.now
         → (src.new ≡ src.old) × (pipe.new ≡ pipe.old) × (aux.new ≡ aux.old) }
-    ensures edid { IsSomeAnd (command_in words.now) IsEdid → EdidDoes (S.seen src.old ⇒ S.seen src.new)
+    ensures edid { Ask IsEdid words.now → EdidDoes (S.seen src.old ⇒ S.seen src.new)
         (P.state aux.old ⇒ P.state aux.new) (aux.new ≡ aux.old) (O.seen out.old ⇒ O.seen out.new) result }
-    ensures edid_keeps { IsSomeAnd (command_in words.now) IsEdid → (pipe.new ≡ pipe.old) × (pix.new ≡ pix.old) }
-    ensures watch { IsSomeAnd (command_in words.now) IsWatch → WatchDoes (S.seen src.old ⇒ S.seen src.new)
+    ensures edid_keeps { Ask IsEdid words.now → (pipe.new ≡ pipe.old) × (pix.new ≡ pix.old) }
+    ensures watch { Ask IsWatch words.now → WatchDoes (S.seen src.old ⇒ S.seen src.new)
         (P.state aux.old ⇒ P.state aux.new) (aux.new ≡ aux.old) (O.seen out.old ⇒ O.seen out.new) result }
-    ensures watch_keeps { IsSomeAnd (command_in words.now) IsWatch → (pipe.new ≡ pipe.old) × (pix.new ≡ pix.old) }
-    ensures judge { IsSomeAnd (command_in words.now) IsJudge → JudgeDoes (S.seen src.old ⇒ S.seen src.new)
+    ensures watch_keeps { Ask IsWatch words.now → (pipe.new ≡ pipe.old) × (pix.new ≡ pix.old) }
+    ensures judge { Ask IsJudge words.now → JudgeDoes (S.seen src.old ⇒ S.seen src.new)
         (O.seen out.old ⇒ O.seen out.new) result }
-    ensures judge_keeps { IsSomeAnd (command_in words.now) IsJudge
-        → (pipe.new ≡ pipe.old) × (aux.new ≡ aux.old) × (pix.new ≡ pix.old) }
+    ensures judge_keeps { Ask IsJudge words.now → (pipe.new ≡ pipe.old) × (aux.new ≡ aux.old) × (pix.new ≡ pix.old) }
 {
     replay_gated(rt, alloc, words, src, pipe, aux, pix, out, &NoGate)
 }
@@ -141,23 +134,20 @@ pub fn replay_gated<S: Source, T: Pipe, P: LoadPort, O: Sink, G: Gate, R: Thread
     gate: &G,
 ) -> u8
     // Whatever is answered: training asks at most 3,104 AUX requests, over all of the call, and trained is said only
-    // where the last status shows every lane in use done. A port that surely tells as many entries as a training has
-    // tells its history to the end. A supervisor asks at most 3,120 an event, of 64 events at most.
-    ensures bounded { (IsSomeAnd (command_in words.now) IsWatch → ⊥)
+    // where the last status shows every lane in use done. A supervisor asks at most 3,120 an event, of 64 at most.
+    // A port that surely tells as many entries as can come tells its history to the end.
+    ensures bounded { (Ask IsWatch words.now → ⊥)
         → (P.state aux.new).asked_in_all ≤ (P.state aux.old).asked_in_all + 3104 }
-    ensures watch_bounded { IsSomeAnd (command_in words.now) IsWatch
+    ensures watch_bounded { Ask IsWatch words.now
         → (P.state aux.new).asked_in_all ≤ (P.state aux.old).asked_in_all + 64 * 3120 }
-    ensures trained { IsSomeAnd (command_in words.now) IsTrain → result ≡ 0
-        → SaysTrained (P.state aux.new) (Prints (O.seen out.old ⇒ O.seen out.new)) }
-    ensures run_trained { IsSomeAnd (command_in words.now) IsRun → result ≡ 0
+    ensures trained { Ask IsTrain words.now ⊎ Ask IsRun words.now → result ≡ 0
         → SaysTrained (P.state aux.new) (PrintsFirst (O.seen out.old ⇒ O.seen out.new)) }
-    ensures told { (IsSomeAnd (command_in words.now) IsWatch → ⊥) → training_entries ≤ P.surely_told
+    ensures told { (Ask IsWatch words.now → ⊥) → training_entries ≤ P.surely_told
         → (aux.new ≡ aux.old) ⊎ IsSome (P.state aux.new).history }
-    ensures watch_told { IsSomeAnd (command_in words.now) IsWatch → most_events * step_entries ≤ P.surely_told
+    ensures watch_told { Ask IsWatch words.now → most_events * step_entries ≤ P.surely_told
         → (aux.new ≡ aux.old) ⊎ IsSome (P.state aux.new).history }
 
-    // There is no other status. A fault comes only where its object counted one, and none that was counted is passed
-    // over.
+    // No other status. A fault comes only where its object counted one, and none that was counted is passed over.
     ensures statuses { IsExitStatus result }
     ensures read_fault { result ≡ 7 → Rose (S.seen src.old).faults (S.seen src.new).faults }
     ensures write_fault { result ≡ 8 → Rose (O.seen pix.old).faults (O.seen pix.new).faults
@@ -168,43 +158,40 @@ pub fn replay_gated<S: Source, T: Pipe, P: LoadPort, O: Sink, G: Gate, R: Thread
     ensures pix_is_calm { IsClean result → (O.seen pix.new).faults ≡ (O.seen pix.old).faults }
     ensures writes_are_calm { result ≢ 8 → (O.seen out.new).faults ≡ (O.seen out.old).faults }
 
-    // Words that have no reading: the usage line is printed, or that there is no memory for it, and nothing else is
-    // touched.
-    ensures usage { Means 2 (command_in words.now ≡ None) result }
-    ensures usage_is_printed { command_in words.now ≡ None
-        → StopsAtOnce (O.seen out.old ⇒ O.seen out.new) Stop.Usage result }
-    ensures usage_changes_only_out { command_in words.now ≡ None
+    // Words without a reading: the usage line is printed, or `memory` in its place, and nothing else is touched.
+    ensures usage { Means 2 (NoReading words.now) result }
+    ensures usage_is_printed { NoReading words.now → StopsAtOnce (O.seen out.old ⇒ O.seen out.new) Stop.Usage result }
+    ensures usage_changes_only_out { NoReading words.now
         → (src.new ≡ src.old) × (pipe.new ≡ pipe.old) × (aux.new ≡ aux.old) × (pix.new ≡ pix.old) }
 
     // What each command does, status by status; the objects that it does not name are as they were.
-    ensures train { IsSomeAnd (command_in words.now) IsTrain → TrainDoes (S.seen src.old ⇒ S.seen src.new)
+    ensures train { Ask IsTrain words.now → TrainDoes (S.seen src.old ⇒ S.seen src.new)
         (P.state aux.old ⇒ P.state aux.new) (aux.new ≡ aux.old) (O.seen out.old ⇒ O.seen out.new) result }
-    ensures train_keeps { IsSomeAnd (command_in words.now) IsTrain → (pipe.new ≡ pipe.old) × (pix.new ≡ pix.old) }
-    ensures send { IsSomeAnd (command_in words.now) IsSend → SendDoes (S.seen src.old ⇒ S.seen src.new)
+    ensures train_keeps { Ask IsTrain words.now → (pipe.new ≡ pipe.old) × (pix.new ≡ pix.old) }
+    ensures send { Ask IsSend words.now → SendDoes (S.seen src.old ⇒ S.seen src.new)
         (T.state pipe.old ⇒ T.state pipe.new) (O.seen pix.old ⇒ O.seen pix.new)
         ((pipe.new ≡ pipe.old) × (pix.new ≡ pix.old)) (O.seen out.old ⇒ O.seen out.new) result }
-    ensures send_keeps { IsSomeAnd (command_in words.now) IsSend → aux.new ≡ aux.old }
-    ensures run { IsSomeAnd (command_in words.now) IsRun → RunDoes (S.seen src.old ⇒ S.seen src.new)
+    ensures send_keeps { Ask IsSend words.now → aux.new ≡ aux.old }
+    ensures run { Ask IsRun words.now → RunDoes (S.seen src.old ⇒ S.seen src.new)
         (P.state aux.old ⇒ P.state aux.new) (aux.new ≡ aux.old) (T.state pipe.old ⇒ T.state pipe.new)
         (O.seen pix.old ⇒ O.seen pix.new) ((pipe.new ≡ pipe.old) × (pix.new ≡ pix.old))
         (O.seen out.old ⇒ O.seen out.new) result }
-    ensures recv { IsSomeAnd (command_in words.now) IsRecv → RecvDoes (S.seen src.old ⇒ S.seen src.new)
+    ensures recv { Ask IsRecv words.now → RecvDoes (S.seen src.old ⇒ S.seen src.new)
         (O.seen pix.old ⇒ O.seen pix.new) (pix.new ≡ pix.old) (O.seen out.old ⇒ O.seen out.new) result }
-    ensures recv_keeps { IsSomeAnd (command_in words.now) IsRecv → (pipe.new ≡ pipe.old) × (aux.new ≡ aux.old) }
-    ensures generate { (seed : ℕ) → IsSomeAnd (command_in words.now) (IsGen seed)
+    ensures recv_keeps { Ask IsRecv words.now → (pipe.new ≡ pipe.old) × (aux.new ≡ aux.old) }
+    ensures generate { (seed : ℕ) → Ask (IsGen seed) words.now
         → GenDoes seed (O.seen pix.old ⇒ O.seen pix.new) (pix.new ≡ pix.old) (O.seen out.old ⇒ O.seen out.new) result }
-    ensures generate_keeps { (seed : ℕ) → IsSomeAnd (command_in words.now) (IsGen seed)
+    ensures generate_keeps { (seed : ℕ) → Ask (IsGen seed) words.now
         → (src.new ≡ src.old) × (pipe.new ≡ pipe.old) × (aux.new ≡ aux.old) }
-    ensures edid { IsSomeAnd (command_in words.now) IsEdid → EdidDoes (S.seen src.old ⇒ S.seen src.new)
+    ensures edid { Ask IsEdid words.now → EdidDoes (S.seen src.old ⇒ S.seen src.new)
         (P.state aux.old ⇒ P.state aux.new) (aux.new ≡ aux.old) (O.seen out.old ⇒ O.seen out.new) result }
-    ensures edid_keeps { IsSomeAnd (command_in words.now) IsEdid → (pipe.new ≡ pipe.old) × (pix.new ≡ pix.old) }
-    ensures watch { IsSomeAnd (command_in words.now) IsWatch → WatchDoes (S.seen src.old ⇒ S.seen src.new)
+    ensures edid_keeps { Ask IsEdid words.now → (pipe.new ≡ pipe.old) × (pix.new ≡ pix.old) }
+    ensures watch { Ask IsWatch words.now → WatchDoes (S.seen src.old ⇒ S.seen src.new)
         (P.state aux.old ⇒ P.state aux.new) (aux.new ≡ aux.old) (O.seen out.old ⇒ O.seen out.new) result }
-    ensures watch_keeps { IsSomeAnd (command_in words.now) IsWatch → (pipe.new ≡ pipe.old) × (pix.new ≡ pix.old) }
-    ensures judge { IsSomeAnd (command_in words.now) IsJudge → JudgeDoes (S.seen src.old ⇒ S.seen src.new)
+    ensures watch_keeps { Ask IsWatch words.now → (pipe.new ≡ pipe.old) × (pix.new ≡ pix.old) }
+    ensures judge { Ask IsJudge words.now → JudgeDoes (S.seen src.old ⇒ S.seen src.new)
         (O.seen out.old ⇒ O.seen out.new) result }
-    ensures judge_keeps { IsSomeAnd (command_in words.now) IsJudge
-        → (pipe.new ≡ pipe.old) × (aux.new ≡ aux.old) × (pix.new ≡ pix.old) }
+    ensures judge_keeps { Ask IsJudge words.now → (pipe.new ≡ pipe.old) × (aux.new ≡ aux.old) × (pix.new ≡ pix.old) }
 {
     a_capture_is_one();
     headers_come_back();

@@ -17,37 +17,19 @@ use Rattle.dpx_phase.specs.declared.recovery.Level.{Level}
 use Rattle.dpx_phase.specs.Drives.{no_drive, drive_after}
 use Rattle.dpx_phase.specs.Endings.{EndsNothing, alike_after}
 use Rattle.dpx_phase.specs.Equalisation.{equalisation}
-use Rattle.dpx_phase.specs.Phase.{Phase, ReadsLater, Adjusts, Round, Rounds, Concludes, LastRound, Follows}
+use Rattle.dpx_phase.specs.Phase.{Phase, ReadsLater, Adjusts, Concludes, Follows}
 use Rattle.dpx_phase.specs.Recovery.{recovery}
 use Rattle.dpx_phase.proofs.Decided.{Turn, Turns, follows_turns}
 use Rattle.dpx_phase.proofs.Endings.{LooksBack, recovery_looks_back, recovery_at, equalisation_looks_back, equalisation_at}
 use Rattle.dpx_phase.proofs.FirstEnd.{tenth_ends, fifth_ends}
 use Rattle.dpx_phase.proofs.RecoveryRounds.{runs_on}
-use Rattle.dpx_phase.proofs.Rounds.{Rounds-push, EndsNothing-push}
 use Rattle.dpx_phase.proofs.Statuses.{drive_after_end}
 use Rattle.dpx_phase.proofs.SwingsAlike.{run, run-zero}
+use Rattle.dpx_phase.proofs.SoFar.{Limited, SoFar, ends_here, none_so_far, round_more}
 use Rattle.dpx_judge.specs.Machine.{first_level, next_drive, next_level}
 use Rattle.dpx_judge.specs.Remainder.{Same, AfterStatus, Onward, RecoversOn, EqualisesOn, recovery_ending}
 use Rattle.dpx_judge.specs.Remainder.{equalisation_ending}
 use Rattle.dpx_judge.proofs.Same.{same, same_through, then_next}
-
--- these statuses were read and ended nothing, and their drives were written
-record SoFar (phase : Phase) (statuses : List Status6) (before : List Entry) : Type 0 where
-  pub unended : EndsNothing phase.ending statuses
-  pub rounds : Rounds phase statuses before
-
--- the last round is here
-ends_here : (phase : Phase) (statuses : List Status6) (before last : List Entry) (given : Result PhaseEnd AuxEnd)
-    → SoFar phase statuses before → LastRound phase statuses given last → Follows phase given (before ++ last)
-ends_here phase statuses before last given so_far l = record {
-  statuses = statuses;
-  unended = so_far.unended;
-  before = before;
-  last = last;
-  joined = refl;
-  rounds = so_far.rounds;
-  ends = l;
-}
 
 -- the rest of a phase, from these statuses on
 abbrev FollowsOn : Phase → ℕ → Type 0
@@ -65,26 +47,8 @@ written_on : (phase : Phase) → LooksBack phase.ending → (more : ℕ) → Fol
     → MatchResult middle (λ written. Turns phase more (statuses ++ status ∷ []) given back)
     (λ error. (given ≡ Err error) × (back ≡ [])) → Follows phase given (before ++ rest)
 written_on phase looks more on statuses status (Ok written) given before read write back rest joined so_far r none w t =
-    let now = statuses ++ status ∷ [] in
-    let round : Round phase (Ok status) (read ++ write) = record {
-      middle = Ok status;
-      front = read;
-      back = write;
-      joined = refl;
-      begins = r;
-      goes_on = record {
-        middle = Ok written;
-        front = write;
-        back = [];
-        joined = sym (append-nil write);
-        begins = w;
-        goes_on = record { same = refl; nothing = refl };
-      };
-    } in
-    let f = on now (before ++ (read ++ write)) given back (record {
-      unended = EndsNothing-push phase.ending statuses status looks so_far.unended none;
-      rounds = Rounds-push phase statuses status before (read ++ write) so_far.rounds round;
-    }) t in
+    let f = on (statuses ++ status ∷ []) (before ++ (read ++ write)) given back
+    (round_more phase statuses status before read write looks so_far r none w) t in
     let e : (before ++ (read ++ write)) ++ back ≡ before ++ rest =
     append_assoc before (read ++ write) back
     ∙ ap (λ (xs : List Entry). before ++ xs) (append_assoc read write back ∙ sym joined) in
@@ -151,12 +115,6 @@ follows_on phase looks (suc more) statuses before given rest so_far t =
     read_on phase looks more (follows_on phase looks more) statuses t.middle given before t.front t.back rest t.joined
     so_far t.begins t.goes_on
 
--- a phase that the status of this number always ends
-record Limited (phase : Phase) (limit : ℕ) : Type 0 where
-  pub looks : LooksBack phase.ending
-  pub some : 1 ≤ limit
-  pub always : (all : List Status6) → phase.ending all limit ≡ None → ⊥
-
 few_statuses : (phase : Phase) (limit : ℕ) → Limited phase limit → (statuses : List Status6)
     → EndsNothing phase.ending statuses → (length statuses < limit) ⊎ (limit ≤ length statuses)
     → length statuses < limit
@@ -171,10 +129,7 @@ follows_same phase limit limited = record {
       follows_turns phase limited.looks limit given history f
       (few_statuses phase limit limited f.statuses f.unended (cases_lt (length f.statuses) limit));
   from = λ given history t.
-      follows_on phase limited.looks limit [] [] given history (record {
-        unended = λ n some few. absurd (omega arith);
-        rounds = refl;
-      }) t;
+      follows_on phase limited.looks limit [] [] given history (none_so_far phase) t;
 }
 
 -- a turn by what is found of its status

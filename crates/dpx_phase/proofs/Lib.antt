@@ -8,4 +8,5 @@ pub mod FirstEnd
 pub mod Decided
 pub mod EndsSay
 pub mod LastStatus
+pub mod SoFar
 pub mod Suffices

@@ -16,14 +16,14 @@ use Rattle.dpx_dpcd.specs.declared.status.Status6.{Status6}
 use Rattle.dpx_dpcd.specs.Status.{status_level}
 use Rattle.dpx_dpcd.proofs.Suffices.{writes_suffice, status_suffices}
 use Rattle.dpx_phase.specs.declared.phase_end.PhaseEnd.{PhaseEnd}
-use Rattle.dpx_phase.specs.Endings.{EndsNothing, recovery_reads, equalisation_reads}
-use Rattle.dpx_phase.specs.Phase.{Phase, ReadsLater, Adjusts, Round, Rounds, Concludes, LastRound, Follows, Runs, Takes}
+use Rattle.dpx_phase.specs.Endings.{recovery_reads, equalisation_reads}
+use Rattle.dpx_phase.specs.Phase.{Phase, ReadsLater, Adjusts, Follows, Runs, Takes}
 use Rattle.dpx_phase.specs.Phase.{as_end}
 use Rattle.dpx_phase.specs.Equalisation.{Equalisation, equalisation, equalisation_asks, pause_of}
 use Rattle.dpx_phase.specs.Recovery.{Recovery, recovery, recovery_asks}
-use Rattle.dpx_phase.proofs.Endings.{LooksBack, recovery_looks_back, equalisation_looks_back}
+use Rattle.dpx_phase.proofs.Endings.{recovery_looks_back, equalisation_looks_back}
 use Rattle.dpx_phase.proofs.FirstEnd.{tenth_ends, fifth_ends}
-use Rattle.dpx_phase.proofs.Rounds.{Rounds-push, EndsNothing-push}
+use Rattle.dpx_phase.proofs.SoFar.{Limited, SoFar, ends_at, ends_here, none_so_far, round_more, unread, unwritten}
 
 reads_suffice : (pause : ℕ) → Suffices asks_at_most (ReadsLater pause)
 reads_suffice pause = then_suffices 0 asks_at_most (waits_suffice pause) (λ waited. status_suffices)
@@ -31,103 +31,6 @@ reads_suffice pause = then_suffices 0 asks_at_most (waits_suffice pause) (λ wai
 -- the rest of a phase, behind rounds whose statuses ended nothing
 abbrev FollowsFrom : Phase → List Entry → Result PhaseEnd AuxEnd → List Entry → Type 0
 FollowsFrom phase before given history = Follows phase given (before ++ history)
-
--- the rounds so far
-record SoFar (phase : Phase) (statuses : List Status6) (before : List Entry) : Type 0 where
-  pub unended : EndsNothing phase.ending statuses
-  pub rounds : Rounds phase statuses before
-
--- the last round is here
-ends_here : (phase : Phase) (statuses : List Status6) (before last : List Entry) (given : Result PhaseEnd AuxEnd)
-    → SoFar phase statuses before → LastRound phase statuses given last → FollowsFrom phase before given last
-ends_here phase statuses before last given so_far l = record {
-  statuses = statuses;
-  unended = so_far.unended;
-  before = before;
-  last = last;
-  joined = refl;
-  rounds = so_far.rounds;
-  ends = l;
-}
-
--- a status that could not be read
-unread : (phase : Phase) (statuses : List Status6) (read : List Entry) (why : AuxEnd)
-    → ReadsLater phase.pause (Err why) read → LastRound phase statuses (Err why) read
-unread phase statuses read why r = record {
-  middle = Err why;
-  front = read;
-  back = [];
-  joined = sym (append-nil read);
-  begins = r;
-  goes_on = (refl, refl);
-}
-
--- a status that ends the phase
-ends_at : (phase : Phase) (statuses : List Status6) (status : Status6) (end : PhaseEnd) (read : List Entry)
-    → ReadsLater phase.pause (Ok status) read
-    → phase.ending (statuses ++ status ∷ []) (length statuses + 1) ≡ Some end → LastRound phase statuses (Ok end) read
-ends_at phase statuses status end read r e = record {
-  middle = Ok status;
-  front = read;
-  back = [];
-  joined = sym (append-nil read);
-  begins = r;
-  goes_on = subst (λ (found : Option PhaseEnd). Concludes phase status found (Ok end) []) (sym e)
-      (record { same = refl; nothing = refl });
-}
-
--- a status that ends nothing, and a drive that could not be written
-unwritten : (phase : Phase) (statuses : List Status6) (status : Status6) (why : AuxEnd) (read write : List Entry)
-    → ReadsLater phase.pause (Ok status) read
-    → phase.ending (statuses ++ status ∷ []) (length statuses + 1) ≡ None
-    → Adjusts phase.lanes (status_level phase.lanes status.bytes) (Err why) write
-    → LastRound phase statuses (Err why) (read ++ write)
-unwritten phase statuses status why read write r e w = record {
-  middle = Ok status;
-  front = read;
-  back = write;
-  joined = refl;
-  begins = r;
-  goes_on = subst (λ (found : Option PhaseEnd). Concludes phase status found (Err why) write) (sym e)
-      (record { why = why; same = refl; failed = w });
-}
-
--- a whole round
-whole_round : (phase : Phase) (status : Status6) (read write : List Entry) → ReadsLater phase.pause (Ok status) read
-    → Adjusts phase.lanes (status_level phase.lanes status.bytes) (Ok tt) write
-    → Round phase (Ok status) (read ++ write)
-whole_round phase status read write r w = record {
-  middle = Ok status;
-  front = read;
-  back = write;
-  joined = refl;
-  begins = r;
-  goes_on = record {
-    middle = Ok tt;
-    front = write;
-    back = [];
-    joined = sym (append-nil write);
-    begins = w;
-    goes_on = record { same = refl; nothing = refl };
-  };
-}
-
-round_more : (phase : Phase) (statuses : List Status6) (status : Status6) (before read write : List Entry)
-    → LooksBack phase.ending → SoFar phase statuses before → ReadsLater phase.pause (Ok status) read
-    → phase.ending (statuses ++ status ∷ []) (length statuses + 1) ≡ None
-    → Adjusts phase.lanes (status_level phase.lanes status.bytes) (Ok tt) write
-    → SoFar phase (statuses ++ status ∷ []) (before ++ (read ++ write))
-round_more phase statuses status before read write looks so_far r e w = record {
-  unended = EndsNothing-push phase.ending statuses status looks so_far.unended e;
-  rounds = Rounds-push phase statuses status before (read ++ write) so_far.rounds
-      (whole_round phase status read write r w);
-}
-
--- a phase that the status of this number always ends
-record Limited (phase : Phase) (limit : ℕ) : Type 0 where
-  pub looks : LooksBack phase.ending
-  pub some : 1 ≤ limit
-  pub always : (all : List Status6) → phase.ending all limit ≡ None → ⊥
 
 -- enough for so many more reads, with a write behind each but the last
 abbrev enough_for : ℕ → ℕ
@@ -255,8 +158,7 @@ from_here phase limit limited (suc more) statuses before left so_far answers eno
 
 follows_suffice : (phase : Phase) (limit : ℕ) → Limited phase limit → Suffices (enough_for limit) (Follows phase)
 follows_suffice phase limit limited answers enough =
-    let none : SoFar phase [] [] = record { unended = λ n some few. absurd (omega arith); rounds = refl } in
-    from_here phase limit limited limit [] [] (omega arith) none answers enough
+    from_here phase limit limited limit [] [] (omega arith) (none_so_far phase) answers enough
 
 takes_suffice : (phase : Phase) (chosen : Pattern) (drive : List ℕ) (limit : ℕ) → Limited phase limit
     → Suffices (asks_at_most + enough_for limit) (Takes phase chosen drive)
