@@ -1,5 +1,5 @@
--- What contracts see of a pipe over a file, which tells nothing of contents: this project's own.
-use Rattle.std.specs.Prelude.{ℕ, Bool, Option, None}
+-- What contracts see of a pipe over a source of records: this project's own.
+use Rattle.std.specs.Prelude.{ℕ, Bool, List, Option, None}
 use Rattle.dpx_base.specs.Beam.{Shown}
 use Rattle.dpx_base.specs.Pipe.{PipeState}
 
@@ -8,6 +8,8 @@ pub record PipeFacts : Type 0 where
   pub clocks : ℕ
   pub clock : ℕ
   pub refused : Bool
+  -- the bytes that are left, where the source tells its own
+  pub left : Option (List ℕ)
   pub faults : ℕ
 
 -- it tells neither its pixels nor its sets

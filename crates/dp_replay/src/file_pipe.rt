@@ -1,16 +1,23 @@
-ghost use Rattle.std.specs.Prelude.{◌≡◌, ◌≤◌, ◌+◌, None, IsSome, IfOk, false};
+ghost use Rattle.std.specs.Prelude.{◌≡◌, ◌≤◌, ◌<◌, ◌+◌, ◌^◌, ◌⊎◌, ℕ, length, IsSome, IfOk, IfSome, is_err, Err, false};
+ghost use Rattle.std.specs.Io.KnownBytes.{Keeps};
 ghost use Rattle.dpx_base.specs.declared.depth.Depth.TheVariants.{Eight};
+ghost use Rattle.dpx_base.specs.declared.pipe.BeginEnd.{BeginEnd};
+ghost use Rattle.dpx_base.specs.declared.pipe.PipeEnd.{PipeEnd};
+ghost use Rattle.dpx_base.specs.Beam.{IsCarried, pixels_before, pixels_in};
+ghost use Rattle.dpx_base.specs.Pipe.{IsBegun, IsClocked, CountsFaults, given_in};
+ghost use Rattle.dp_replay.specs.FilePipe.{told_of};
+ghost use Rattle.dp_replay.specs.Records.{HoldsInAll, TakesPixels, left_of, unread};
 
-use crate::file_source::FileSource;
 use crate::records::{Records, TakeEnd};
-use dpx_base::{Arrivals, Beam, BeginEnd, LaneSet, Link, Mode, Pipe, PipeEnd};
+use dpx_base::{Arrivals, Beam, BeginEnd, LaneSet, Link, Mode, Pipe, PipeEnd, Source};
 use std::alloc::Global;
 use std::marker::Model;
 
-/// A pipe whose pixels are the records of a file. It tells neither its pixels nor its sets.
+/// A pipe whose pixels are the records of a source, which is a file in the program. It tells neither its pixels nor its
+/// sets, since a source is read once; what each clock takes of a source that tells its bytes stands at `clock`.
 #[derive(Drop)]
-pub struct FilePipe {
-    records: Records,
+pub struct FilePipe<S: Source> {
+    records: Records<S>,
     beam: Option<Beam>,
     clocks: u64,
     clock: u64,
@@ -19,7 +26,7 @@ pub struct FilePipe {
     refused: bool,
 }
 
-impl Model for FilePipe {
+impl<S: Source> Model for FilePipe<S> {
     ghost use Rattle.dp_replay.specs.FilePipe.{PipeFacts};
     ghost use Rattle.dp_replay.specs.FilePipeFields.{IsInPipe, facts_of};
 
@@ -30,10 +37,17 @@ impl Model for FilePipe {
     ghost invariant = { IsInPipe };
 }
 
-impl FilePipe {
+impl<S: Source> FilePipe<S> {
     /// Not begun yet.
-    pub fn new(source: FileSource) -> FilePipe
-        ensures { result ≡ record { begun = None; clocks = 0; clock = 0; refused = false; faults = source.faults } }
+    pub fn new(source: S) -> FilePipe<S>
+        ensures { result ≡ record {
+          begun = None;
+          clocks = 0;
+          clock = 0;
+          refused = false;
+          left = left_of (unread (S.seen source));
+          faults = (S.seen source).faults;
+        } }
     {
         FilePipe {
             records: Records::new(source),
@@ -46,12 +60,10 @@ impl FilePipe {
     }
 }
 
-impl Pipe for FilePipe {
-    ghost use Rattle.dp_replay.specs.FilePipe.{told_of};
-
+impl<S: Source> Pipe for FilePipe<S> {
     ghost state = { told_of };
 
-    /// Where there is no file, that is a fault.
+    /// Where there is nothing to read from, that is a fault.
     #[tactic(auto, using(dpx_base::proofs::Beams::pixels_first))]
     fn begin(
         &mut self,
@@ -60,7 +72,14 @@ impl Pipe for FilePipe {
         link: Link,
         frames: u32,
         clocks: u64,
-    ) -> Result<(), BeginEnd> {
+    ) -> Result<(), BeginEnd>
+        requires carried { IsCarried mode.now link }
+        requires short { clocks ≤ 2 ^ 62 }
+        ensures begun { IsBegun (record { mode = mode.now; link = link; frames = frames }) clocks (is_err result)
+            (told_of self.old) (told_of self.new) }
+        ensures faults { CountsFaults (result ≡ Err BeginEnd.Failed) self.old.faults self.new.faults }
+        ensures kept { Keeps self.old.left self.new.left }
+    {
         self.beam = Some(Beam::new(mode, link, frames));
         self.clocks = clocks;
         self.clock = 0;
@@ -73,8 +92,25 @@ impl Pipe for FilePipe {
         }
     }
 
-    #[tactic(auto, using(dpx_base::proofs::Beams::pixels_step))]
-    fn clock(&mut self, _sent: &LaneSet) -> Result<Arrivals, PipeEnd> {
+    #[tactic(auto, using(dpx_base::proofs::Beams::pixels_step, crate::proofs::Pixels::held_in_all))]
+    fn clock(&mut self, sent: &LaneSet) -> Result<Arrivals, PipeEnd>
+        requires begun { IsSome self.old.begun }
+        requires kept { self.old.refused ≡ false }
+        requires left { self.old.clock < self.old.clocks }
+        ensures clocked { IsClocked sent.now (is_err result) (told_of self.old) (told_of self.new) }
+        ensures count { IfSome self.old.begun (λ shown. IfOk result
+            (λ arrivals. length arrivals ≡ pixels_in shown self.old.clock)) }
+        ensures contents { IfSome self.old.begun (λ shown. IfSome (told_of self.old).pixels (λ pixels.
+            (result ≡ Err PipeEnd.Failed) ⊎ (result ≡ given_in shown self.old.clock pixels))) }
+        ensures ended { IfSome self.old.begun (λ shown. (n : ℕ) → result ≡ Err (PipeEnd.Ended n)
+            → (pixels_before shown self.old.clock ≤ n) × (n < pixels_before shown (self.old.clock + 1))) }
+        ensures faults { CountsFaults (result ≡ Err PipeEnd.Failed) self.old.faults self.new.faults }
+        ensures takes { IfSome self.old.begun (λ shown. IfOk result
+            (TakesPixels (pixels_in shown self.old.clock) self.old.left self.new.left)) }
+        ensures whole { IfSome self.old.begun (λ shown. (n : ℕ) → result ≡ Err (PipeEnd.Ended n)
+            → HoldsInAll (pixels_before shown self.old.clock) n self.old.left) }
+    {
+        let _sent = sent;
         self.clock += 1;
         let due = match &mut self.beam {
             Some(beam) => beam.next(),
@@ -100,6 +136,7 @@ impl Pipe for FilePipe {
 #[cfg(test)]
 mod tests {
     use super::*;
+    use crate::file_source::FileSource;
     use dpx_base::{Depth, Lanes, ModeField, Pixel, Rate, RawMode, Sym, write_pixel};
     use std::fs;
     use std::fs::File;
@@ -155,7 +192,7 @@ mod tests {
         rt: &R,
         bytes: &[u8],
         clock_khz: u32,
-    ) -> Result<FilePipe, Fail>
+    ) -> Result<FilePipe<FileSource>, Fail>
         requires { clock_khz ≤ 216000 }
         ensures begun { IfOk result (λ pipe. IsSome pipe.begun) }
         ensures kept { IfOk result (λ pipe. pipe.refused ≡ false) }
@@ -169,7 +206,7 @@ mod tests {
     }
 
     /// How many of the clocks go on, and why the next does not.
-    fn first_end(pipe: &mut FilePipe, clocks: u64) -> (u64, Option<PipeEnd>)
+    fn first_end(pipe: &mut FilePipe<FileSource>, clocks: u64) -> (u64, Option<PipeEnd>)
         requires begun { IsSome pipe.old.begun }
         requires kept { pipe.old.refused ≡ false }
         requires left { pipe.old.clock + clocks ≤ pipe.old.clocks }
@@ -207,7 +244,7 @@ mod tests {
     }
 
     /// The pixels of these clocks are numbered in order, from 0 on; this is how many they are.
-    fn in_order(rt: &impl Abort, pipe: &mut FilePipe, clocks: u64) -> u16
+    fn in_order(rt: &impl Abort, pipe: &mut FilePipe<FileSource>, clocks: u64) -> u16
         requires begun { IsSome pipe.old.begun }
         requires kept { pipe.old.refused ≡ false }
         requires left { pipe.old.clock + clocks ≤ pipe.old.clocks }

@@ -34,12 +34,6 @@ impl FileSource {
         }
     }
 
-    pub fn holds(&self) -> bool
-        ensures { result ≡ self.now.holds }
-    {
-        self.file.is_some()
-    }
-
     /// A source that holds nothing: each read of it fails.
     pub fn nothing() -> FileSource
         ensures { result ≡ record { holds = false; faults = 0 } }

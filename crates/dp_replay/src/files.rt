@@ -12,7 +12,7 @@ use std::rt::Files;
 #[derive(Drop)]
 pub struct CommandFiles {
     pub src: FileSource,
-    pub pipe: FilePipe,
+    pub pipe: FilePipe<FileSource>,
     pub pix: FileSink,
 }
 
